@@ -1,0 +1,2 @@
+-- What several proofs of crate base share.
+pub mod Clearing

@@ -1,0 +1,47 @@
+-- `base::bytes::at32` meets its contract: past the end `le32` gives 0. Assumes nothing.
+use borrow.Author.Needs.{needs}
+use mathlib.Core.Path.{sym}
+use Rattle.base.specs.BytesLaws.{le32-past}
+use Rattle.base.proofs.bytes.at32.Statement.{statement}
+use Rattle.base.proofs.bytes.at32.Tie as tie
+
+returns : tie.Need-returns
+returns c = sym (le32-past (c .before .before .args .s .now) (c .before .before .args .i) (c .if1 .taken))
+
+at16-requires : tie.Need-at16-requires
+at16-requires c κs = search needs
+
+word-requires : tie.Need-word-requires
+word-requires c κs = search needs
+
+add-at16 : tie.Need-add-at16
+add-at16 c = search needs
+
+at16-requires-2 : tie.Need-at16-requires-2
+at16-requires-2 c κs = search needs
+
+word-requires-2 : tie.Need-word-requires-2
+word-requires-2 c κs = search needs
+
+mul-result : tie.Need-mul-result
+mul-result c = search needs
+
+add-result : tie.Need-add-result
+add-result c = search needs
+
+returns-2 : tie.Need-returns-2
+returns-2 c = search needs
+
+pub at32-spec : {M : Type 1} → statement M
+at32-spec =
+    tie.close
+    (tie.spec
+    returns
+    at16-requires
+    word-requires
+    add-at16
+    at16-requires-2
+    word-requires-2
+    mul-result
+    add-result
+    returns-2)

@@ -1,0 +1,102 @@
+-- What is written as bytes is read back, and the other way round. Assumes nothing.
+use mathlib.Core.List.{List, _∷_, _++_}
+use mathlib.Core.Path.{_≡_, refl, ap, ap₂, _∙_}
+use Prim.Native.Nat.{ℕ, zero, suc, _+_, _*_, _/_, _^_, _≤_, _<_}
+use native.Mathlib.Nat.{add-assoc}
+use native.Mathlib.Numerals.{add-one}
+use native.Mathlib.Omega.{arith}
+use lib.ListN.{length, getD, take, drop, List·getD-eq-default}
+use lib.Seq.{getD-append-add, drop-cons}
+use Rattle.base.specs.Bytes.{byte, le16, le32, bytes}
+
+-- every element is a byte
+abbrev pub Are-bytes : List ℕ → Type 0
+Are-bytes s = (i : ℕ) → getD s i 0 < 256
+
+-- bytes n x has n elements
+pub bytes-length : (n x : ℕ) → length (bytes n x) ≡ n
+bytes-length zero x = refl
+bytes-length (suc n) x = ap suc (bytes-length n (x / 256))
+
+-- each of them a byte
+pub bytes-small : (n x : ℕ) → Are-bytes (bytes n x)
+bytes-small zero x i = omega arith
+bytes-small (suc n) x zero = omega arith
+bytes-small (suc n) x (suc i) = bytes-small n (x / 256) i
+
+-- past the end a number of two bytes is 0
+pub le16-past : (s : List ℕ) (i : ℕ) → length s ≤ i → le16 s i ≡ 0
+le16-past s i h = omega (arith, List·getD-eq-default s 0 {n = i} h, List·getD-eq-default s 0 {n = i + 1} (omega arith))
+
+-- and one of four
+pub le32-past : (s : List ℕ) (i : ℕ) → length s ≤ i → le32 s i ≡ 0
+le32-past s i h = omega (arith, le16-past s i h, le16-past s (i + 2) (omega arith))
+
+-- a number of two bytes is read back
+pub le16-bytes : (x : ℕ) (rest : List ℕ) → x < 65536 → le16 (bytes 2 x ++ rest) 0 ≡ x
+le16-bytes x rest h = omega arith
+
+-- a number of four bytes is read back
+pub le32-bytes : (x : ℕ) (rest : List ℕ) → x < 2 ^ 32 → le32 (bytes 4 x ++ rest) 0 ≡ x
+le32-bytes x rest h = omega arith
+
+-- a byte behind a list's first part is read in the rest
+pub byte-behind : (xs ys : List ℕ) (i : ℕ) → byte (xs ++ ys) (length xs + i) ≡ byte ys i
+byte-behind xs ys i = getD-append-add xs ys i 0
+
+-- and so is a number of two bytes
+pub le16-behind : (xs ys : List ℕ) (i : ℕ) → le16 (xs ++ ys) (length xs + i) ≡ le16 ys i
+le16-behind xs ys i = rw (add-assoc, byte-behind xs ys i, byte-behind xs ys (i + 1))
+
+-- and one of four
+pub le32-behind : (xs ys : List ℕ) (i : ℕ) → le32 (xs ++ ys) (length xs + i) ≡ le32 ys i
+le32-behind xs ys i = simp (add-assoc, getD-append-add)
+
+-- two bytes that were written at a place are read there
+pub le16-written : (xs rest : List ℕ) (n x : ℕ) → length xs ≡ n → x < 65536 → le16 (xs ++ (bytes 2 x ++ rest)) n ≡ x
+le16-written xs rest n x e h =
+    let z : n ≡ length xs + 0 = omega arith in
+    rw (z, le16-behind) (le16-bytes x rest h)
+
+-- and four
+pub le32-written : (xs rest : List ℕ) (n x : ℕ) → length xs ≡ n → x < 2 ^ 32 → le32 (xs ++ (bytes 4 x ++ rest)) n ≡ x
+le32-written xs rest n x e h =
+    let z : n ≡ length xs + 0 = omega arith in
+    rw (z, le32-behind) (le32-bytes x rest h)
+
+-- a number of two bytes is below 2 ^ 16
+pub le16-small : (s : List ℕ) (i : ℕ) → Are-bytes s → le16 s i < 65536
+le16-small s i b = omega (arith, b i, b (i + 1))
+
+-- and one of four below 2 ^ 32
+pub le32-small : (s : List ℕ) (i : ℕ) → Are-bytes s → le32 s i < 2 ^ 32
+le32-small s i b = omega (arith, le16-small s i b, le16-small s (i + 2) b)
+
+-- the number in the n bytes from i on
+unfoldable number : ℕ → List ℕ → ℕ → ℕ
+number zero s i = 0
+number (suc n) s i = byte s i + 256 * number n s (suc i)
+
+-- n bytes that were read are those that stood there
+bytes-number : (n : ℕ) (s : List ℕ) (i : ℕ) → Are-bytes s → i + n ≤ length s → bytes n (number n s i) ≡ take n (drop i s)
+unfolding number
+bytes-number zero s i b h = refl
+bytes-number (suc n) s i b h =
+    let low = b i in
+    rw (drop-cons s i 0 (omega arith))
+    (ap₂ (λ (x : ℕ) (l : List ℕ). x ∷ l) (omega arith) (ap (bytes n) (omega arith) ∙ bytes-number n s (suc i) b (omega arith)))
+
+-- so for two bytes
+pub bytes-le16 : (s : List ℕ) (i : ℕ) → Are-bytes s → i + 2 ≤ length s → bytes 2 (le16 s i) ≡ take 2 (drop i s)
+unfolding number
+bytes-le16 s i b h = ap (bytes 2) (rw (add-one i) (omega arith)) ∙ bytes-number 2 s i b h
+
+-- and for four
+pub bytes-le32 : (s : List ℕ) (i : ℕ) → Are-bytes s → i + 4 ≤ length s → bytes 4 (le32 s i) ≡ take 4 (drop i s)
+unfolding number
+bytes-le32 s i b h = ap (bytes 4) same ∙ bytes-number 4 s i b h
+  where
+    same : le32 s i ≡ number 4 s i
+    same =
+        let e : i + 2 ≡ suc (suc i) = omega arith in
+        rw (e, add-one i, add-one (suc (suc i))) (omega arith)

@@ -1,0 +1,38 @@
+-- Refusals: a call's conditions in 01's order, and the first that holds. Assumes nothing.
+use mathlib.Core.Bool.{Bool, true, false}
+use mathlib.Core.List.{List, [], _∷_, _++_}
+use Prim.Native.Nat.{ℕ, zero, suc}
+use lib.Dec.{ltb}
+use Rattle.base.specs.declared.Refusal.{Refusal}
+use Rattle.base.specs.declared.Verdict.{Verdict}
+use Rattle.base.specs.declared.Verdict.the-variants.{Passed, Refused}
+use Rattle.base.specs.Choice.{pick}
+
+-- a condition: does it hold, and the number and place that a refusal by it gives
+pub record Condition : Type 0 where
+  pub holds : Bool
+  pub number : ℕ
+  pub place : ℕ
+
+-- refuse by `number` at `place` when a test holds
+abbrev pub refuse : ℕ → ℕ → Bool → Condition
+refuse n p b = record { holds = b; number = n; place = p }
+
+-- refused by the first condition that holds, passed where none does
+unfoldable pub first : List Condition → Verdict
+first [] = Passed
+first (c ∷ cs) = pick (c .holds) (Refused (record { number = c .number; place = c .place })) (first cs)
+
+-- what was found so far, or the refusal by a further condition where that is the first to hold
+unfoldable pub or-else : Verdict → Condition → Verdict
+or-else Passed c = first (c ∷ [])
+or-else (Refused r) c = Refused r
+
+-- 31: a lent output of a given length is too short for what is needed
+abbrev pub short : ℕ → ℕ → Condition
+short needed length = refuse 31 needed (ltb length needed)
+
+-- the conditions of each of the first n things, in order
+unfoldable pub each : (ℕ → List Condition) → ℕ → List Condition
+each f zero = []
+each f (suc n) = each f n ++ f n

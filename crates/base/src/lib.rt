@@ -1,0 +1,16 @@
+// What every crate above needs: refusals, sets of servers in a word, total reads of bytes.
+pub mod bytes;
+pub mod refusals;
+pub mod sets;
+
+// A refusal: its number in 01's two lists, and its place (0 unless 01 names one).
+pub struct Refusal {
+    pub number: u8,
+    pub place: u64,
+}
+
+// What a list of conditions gives: none held, or the refusal by the first that did.
+pub enum Verdict {
+    Passed,
+    Refused(Refusal),
+}

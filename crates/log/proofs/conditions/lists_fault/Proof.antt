@@ -1,0 +1,121 @@
+use borrow.Author.Needs.{needs}
+use mathlib.Core.Path.{_≡_, refl, sym, _∙_}
+use Prim.Native.Nat.{_≤_, _-_}
+use native.Mathlib.Omega.{arith}
+use native.Mathlib.Numerals.{add-one}
+use lib.ListN.{length}
+use Rattle.log.specs.ConditionLaws.{list-found}
+use Rattle.base.specs.Refusals.{first, each}
+use Rattle.base.specs.RefusalLaws.{each-refused}
+use Rattle.base.specs.declared.Verdict.the-variants.{Passed}
+use Rattle.log.specs.Conditions.{before, request-conditions}
+use Rattle.log.specs.ConditionLaws.{each-more}
+use Rattle.log.proofs.conditions.lists_fault.Statement.{statement}
+use Rattle.log.proofs.conditions.lists_fault.Tie as tie
+use Rattle.log.proofs.conditions.lists_fault.Reads as reads
+use Rattle.log.proofs.conditions.lists_fault.Lts as lts
+use Rattle.log.proofs.conditions.place.Reads as place-reads
+use Rattle.log.proofs.conditions.request_fault.Reads as request-fault-reads
+
+abbrev Inv-loop : tie.InvT-loop
+Inv-loop count seconds servers earlier₀ i₀ earlier i = (i ≤ length seconds) × (first (each (request-conditions count seconds servers) i) ≡ Passed) × (earlier ≡ before seconds i)
+
+abbrev μ-loop : tie.MeasureT-loop
+μ-loop count seconds servers earlier₀ i₀ earlier i = length seconds - i
+
+-- src/conditions.rt:197:5
+loop-holds : tie.Need-loop-holds Inv-loop μ-loop
+unfolding first each before
+loop-holds c = (search needs, refl, refl)
+
+-- src/conditions.rt:198:22
+mul-second : tie.Need-mul-second Inv-loop μ-loop
+mul-second c = search needs
+
+-- src/conditions.rt:198:22
+shared-slice-read-second : tie.Need-shared-slice-read-second Inv-loop μ-loop
+shared-slice-read-second c = search needs
+
+-- src/conditions.rt:199:38
+mul-request-fault : tie.Need-mul-request-fault Inv-loop μ-loop
+mul-request-fault c = search needs
+
+-- src/conditions.rt:199:38
+shared-slice-read-request-fault : tie.Need-shared-slice-read-request-fault Inv-loop μ-loop
+shared-slice-read-request-fault c = search needs
+
+-- src/conditions.rt:199:67
+place-requires : tie.Need-place-requires Inv-loop μ-loop
+place-requires c κs = search needs
+
+-- src/conditions.rt:199:13
+request-fault-requires : tie.Need-request-fault-requires Inv-loop μ-loop
+request-fault-requires c κs = search needs
+
+-- src/conditions.rt:200:33
+enum-known-v : tie.Need-enum-known-v Inv-loop μ-loop
+enum-known-v c = search needs
+
+-- src/conditions.rt:201:13
+returns : tie.Need-returns Inv-loop μ-loop
+returns c =
+    let p = c .before .before .before in
+    let l = p .before .before .before .before .before .loop in
+    let a = p .before .before .before .before .before .before .before .before .args in
+    sym (each-refused (request-conditions (a .count) (a .seconds .now) (a .servers .now)) (l .i) (length (a .seconds .now)) _ (search needs) (l .inv .1)
+    (list-found (a .count) (a .seconds .now) (a .servers .now) (l .i) (l .earlier) _ _ (l .inv .2) (p .before .place .ensures) (p .request-fault .ensures)
+    ∙ c .before .v .given .1))
+
+enum-told : tie.Need-enum-told Inv-loop μ-loop
+enum-told c = search needs
+
+-- src/conditions.rt:204:9
+add-i : tie.Need-add-i Inv-loop μ-loop
+add-i c = search needs
+
+-- src/conditions.rt:197:5
+loop-less : tie.Need-loop-less Inv-loop μ-loop
+loop-less c = search needs
+
+-- src/conditions.rt:197:5
+loop-again : tie.Need-loop-again Inv-loop μ-loop
+unfolding before
+loop-again c =
+    let p = c .before .before in
+    let l = p .before .before .before .before .before .loop in
+    let a = p .before .before .before .before .before .before .before .before .args in (
+      search needs,
+      rw (add-one (l .i))
+          (each-more (request-conditions (a .count) (a .seconds .now) (a .servers .now)) (l .i) (l .inv .1)
+          (list-found (a .count) (a .seconds .now) (a .servers .now) (l .i) (l .earlier) _ _ (l .inv .2) (p .before .place .ensures) (p .request-fault .ensures)
+          ∙ c .enum-told .given .1)),
+      rw (add-one (l .i)),
+    )
+
+-- src/conditions.rt:191:1
+returns-2 : tie.Need-returns-2 Inv-loop μ-loop
+returns-2 c =
+    let l = c .before .loop in
+    let e : l .i ≡ length (c .before .before .before .before .args .seconds .now) = omega arith in
+    sym (rw e at (l .inv .1))
+
+pub lists-fault-spec : {M : Type 1} → statement M
+lists-fault-spec =
+    tie.close
+    (tie.spec
+    Inv-loop
+    μ-loop
+    loop-holds
+    mul-second
+    shared-slice-read-second
+    mul-request-fault
+    shared-slice-read-request-fault
+    place-requires
+    request-fault-requires
+    enum-known-v
+    returns
+    enum-told
+    add-i
+    loop-less
+    loop-again
+    returns-2)

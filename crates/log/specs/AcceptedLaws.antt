@@ -1,0 +1,222 @@
+-- Acceptance in plain facts: what a log that is not refused says, and what can be written. Assumes nothing.
+use mathlib.Core.Bool.{Bool, true, false, not}
+use mathlib.Core.List.{List, [], _∷_, _++_}
+use mathlib.Core.Logic.{_≢_}
+use mathlib.Core.Path.{_≡_, refl, sym, _∙_}
+use Prim.Native.Nat.{ℕ, zero, suc, _+_, _*_, _≤_, _<_}
+use native.Mathlib.Omega.{arith}
+use lib.Dec.{leb, ltb, eqb}
+use lib.ListN.{getD, length}
+use borrow.Author.Tests.{ltb-false, leb-false, eqb-false, eqb-true, not-false, le-ltb, lt-leb, eq-eqb, ne-eqb}
+use Rattle.base.specs.Choice.{either, not-both}
+use Rattle.base.specs.Refusals.{Condition, first, each}
+use Rattle.base.specs.RefusalLaws.{first-failed, first-append, otherwise-passed, each-passed, first-passed}
+use Rattle.base.specs.declared.Verdict.the-variants.{Passed}
+use Rattle.base.specs.Bytes.{byte, le16, le32}
+use Rattle.base.specs.Lists.{build-length, build-at}
+use Rattle.log.specs.Fields.{version, class-of, server-count, home-of, request-count, requests-offset, id-offset, total-length, written-sum, id-of, length-for, seconds-of, servers-of}
+use Rattle.log.specs.Sum.{sum-of}
+use Rattle.log.specs.Conditions.{setup-conditions, header-conditions, before, request-conditions, log-conditions, verdict-of, Accepted}
+use Rattle.log.specs.Contents.{Contents, contents-conditions}
+
+-- class, server count and home are in range
+pub record Setup (class′ count home : ℕ) : Type 0 where
+  pub class-most : class′ ≤ 7
+  pub servers-least : 1 ≤ count
+  pub servers-most : count ≤ 64
+  pub home-below : home < count
+
+-- request i is in range, and later than the one before
+pub record In-order (count : ℕ) (seconds servers : List ℕ) (i : ℕ) : Type 0 where
+  pub server-below : getD servers i 0 < count
+  pub second-least : 1 ≤ getD seconds i 0
+  pub second-most : getD seconds i 0 ≤ 4000000
+  pub later : before seconds i < getD seconds i 0
+
+-- a log that is as the format says
+pub record Sound (s : List ℕ) : Type 0 where
+  pub version-is : version s ≡ 1
+  pub setup : Setup (class-of s) (server-count s) (home-of s)
+  pub zero-is : byte s 5 ≡ 0
+  pub requests-most : request-count s ≤ 2048
+  pub requests-at : requests-offset s ≡ 40
+  pub id-at : id-offset s ≡ 24
+  pub total-is : total-length s ≡ length-for (request-count s)
+  pub length-is : length s ≡ length-for (request-count s)
+  pub sum-is : written-sum s ≡ sum-of s
+  pub in-order : (i : ℕ) → i < request-count s → In-order (server-count s) (seconds-of s) (servers-of s) i
+
+-- contents that a log can say
+pub record Proper (c : Contents) : Type 0 where
+  pub setup : Setup (c .header .«class») (c .header .«server_count») (c .header .home)
+  pub requests-most : length (c .seconds) ≤ 2048
+  pub as-many : length (c .servers) ≡ length (c .seconds)
+  pub in-order : (i : ℕ) → i < length (c .seconds) → In-order (c .header .«server_count») (c .seconds) (c .servers) i
+
+-- contents that the writer does not refuse
+abbrev pub Writable : Contents → Type 0
+Writable c = first (contents-conditions c) ≡ Passed
+
+-- ---- tests that fail, both ways
+
+-- neither of two tests
+either-false : (a b : Bool) → either a b ≡ false → (a ≡ false) × (b ≡ false)
+either-false true b e = absurd (not-both refl e)
+either-false false b e = (refl, e)
+
+false-either : {a b : Bool} → a ≡ false → b ≡ false → either a b ≡ false
+false-either p q = rw p q
+
+-- two numbers are the same
+differ-false : (a b : ℕ) → not (eqb a b) ≡ false → a ≡ b
+differ-false a b e = eqb-true a b (not-false (eqb a b) e)
+
+same-false : (a b : ℕ) → a ≡ b → not (eqb a b) ≡ false
+same-false a b e = rw (eq-eqb a b e)
+
+-- a number is in range
+range-false : (x m : ℕ) → either (eqb x 0) (ltb m x) ≡ false → (1 ≤ x) × (x ≤ m)
+range-false x m e =
+    let (p, q) = either-false (eqb x 0) (ltb m x) e in
+    let no : x ≢ 0 = eqb-false x 0 p in omega (arith, ltb-false)
+
+false-range : (x m : ℕ) → 1 ≤ x → x ≤ m → either (eqb x 0) (ltb m x) ≡ false
+false-range x m l h = false-either (ne-eqb x 0 (omega arith)) (le-ltb m x h)
+
+-- ---- lists of conditions that pass
+
+-- no condition, one more, and two lists
+passed-nil : first [] ≡ Passed
+unfolding first
+passed-nil = refl
+
+passed-cons : (c : Condition) (cs : List Condition) → c .holds ≡ false → first cs ≡ Passed → first (c ∷ cs) ≡ Passed
+passed-cons c cs h e = first-failed c cs h ∙ e
+
+passed-append : (xs ys : List Condition) → first xs ≡ Passed → first ys ≡ Passed → first (xs ++ ys) ≡ Passed
+passed-append xs ys p q = first-append xs ys ∙ rw p q
+
+-- ---- the conditions on a setup and on a request, both ways
+
+-- class, server count and home
+setup-in : (k n h : ℕ) → ltb 7 k ≡ false → either (eqb n 0) (ltb 64 n) ≡ false → leb n h ≡ false → Setup k n h
+setup-in k n h p q r = let range = range-false n 64 q in omega (arith, ltb-false, leb-false)
+
+passed-setup : (k n h : ℕ) (cs : List Condition) → Setup k n h → first cs ≡ Passed → first (setup-conditions k n h ++ cs) ≡ Passed
+unfolding setup-conditions
+passed-setup k n h cs f e =
+    passed-cons _ _ (le-ltb _ _ (f .class-most))
+    (passed-cons _ _ (false-range _ _ (f .servers-least) (f .servers-most)) (passed-cons _ _ (lt-leb _ _ (f .home-below)) e))
+
+-- the first m requests
+module _ (n : ℕ) (seconds servers : List ℕ) (m : ℕ) where
+  in-order-of : first (each (request-conditions n seconds servers) m) ≡ Passed
+      → (i : ℕ) → i < m → In-order n seconds servers i
+  unfolding request-conditions
+  in-order-of e i l =
+      let f = first-passed (request-conditions n seconds servers i) .0 (each-passed (request-conditions n seconds servers) m .0 e i l) in
+      let range = range-false (getD seconds i 0) 4000000 (f 1) in
+      omega (arith, leb-false n (getD servers i 0) (f 0), leb-false (getD seconds i 0) (before seconds i) (f 2))
+
+  passed-in-order : ((i : ℕ) → i < m → In-order n seconds servers i)
+      → first (each (request-conditions n seconds servers) m) ≡ Passed
+  unfolding request-conditions
+  passed-in-order o = each-passed (request-conditions n seconds servers) m .1 λ i l.
+      let f = o i l in
+      passed-cons _ _ (lt-leb _ _ (f .server-below))
+      (passed-cons _ _ (false-range _ _ (f .second-least) (f .second-most))
+      (passed-cons _ _ (lt-leb _ _ (f .later)) passed-nil))
+
+-- ---- the log
+
+-- an accepted log is sound
+pub accepted-sound : (s : List ℕ) → Accepted s → Sound s
+unfolding Accepted verdict-of log-conditions header-conditions setup-conditions
+accepted-sound s a =
+    let each-request = each (request-conditions (server-count s) (seconds-of s) (servers-of s)) (request-count s) in
+    let (p, q) = otherwise-passed (first (header-conditions s)) (first each-request) (sym (first-append (header-conditions s) each-request) ∙ a) in
+    let f = first-passed (header-conditions s) .0 p in
+    let (at-requests, at-others) = either-false _ _ (f 7) in
+    let (at-id, at-total) = either-false _ _ at-others in
+    let total : total-length s ≡ length-for (request-count s) = differ-false _ _ at-total in
+    record {
+      version-is = differ-false _ _ (f 1);
+      setup = setup-in _ _ _ (f 2) (f 3) (f 4);
+      zero-is = differ-false _ _ (f 5);
+      requests-most = ltb-false _ _ (f 6);
+      requests-at = differ-false _ _ at-requests;
+      id-at = differ-false _ _ at-id;
+      total-is = total;
+      length-is = differ-false _ _ (f 8) ∙ total;
+      sum-is = differ-false _ _ (f 9);
+      in-order = in-order-of _ _ _ _ q;
+    }
+
+-- a sound log is accepted
+pub sound-accepted : (s : List ℕ) → Sound s → Accepted s
+unfolding Accepted verdict-of log-conditions header-conditions setup-conditions length-for
+sound-accepted s f =
+    passed-append (header-conditions s) _
+    (passed-cons _ _ (le-ltb (length s) 40 (omega (arith, f .length-is)))
+    (passed-cons _ _ (same-false _ _ (f .version-is))
+    (passed-setup _ _ _ _ (f .setup)
+    (passed-cons _ _ (same-false _ _ (f .zero-is))
+    (passed-cons _ _ (le-ltb _ _ (f .requests-most))
+    (passed-cons _ _ (false-either (same-false _ _ (f .requests-at)) (false-either (same-false _ _ (f .id-at)) (same-false _ _ (f .total-is))))
+    (passed-cons _ _ (same-false _ _ (f .length-is ∙ sym (f .total-is)))
+    (passed-cons _ _ (same-false _ _ (f .sum-is)) passed-nil))))))))
+    (passed-in-order _ _ _ _ (f .in-order))
+
+-- ---- the contents
+
+-- contents that the writer does not refuse are proper
+pub writable-proper : (c : Contents) → Writable c → Proper c
+unfolding contents-conditions setup-conditions
+writable-proper c w =
+    let f = first-passed (contents-conditions c) .0 w in
+    let (few, as-many) = either-false _ _ (f 3) in
+    record {
+      setup = setup-in _ _ _ (f 0) (f 1) (f 2);
+      requests-most = ltb-false _ _ few;
+      as-many = sym (differ-false _ _ as-many);
+      in-order = in-order-of _ _ _ _ (first-passed _ .1 (λ i. f (suc (suc (suc (suc i))))));
+    }
+
+-- proper contents are not refused
+pub proper-writable : (c : Contents) → Proper c → Writable c
+unfolding contents-conditions setup-conditions
+proper-writable c f =
+    passed-setup _ _ _ _ (f .setup)
+    (passed-cons _ _ (false-either (le-ltb _ _ (f .requests-most)) (same-false _ _ (sym (f .as-many))))
+    (passed-in-order _ _ _ _ (f .in-order)))
+
+-- ---- the lists that are read from a log
+
+-- there are as many seconds and servers as the header says
+pub seconds-length : (s : List ℕ) → length (seconds-of s) ≡ request-count s
+unfolding seconds-of
+seconds-length s = build-length (request-count s) _
+
+pub servers-length : (s : List ℕ) → length (servers-of s) ≡ request-count s
+unfolding servers-of
+servers-length s = build-length (request-count s) _
+
+-- each stands in its place
+pub second-at : (s : List ℕ) (i : ℕ) → i < request-count s → getD (seconds-of s) i 0 ≡ le32 s (40 + 6 * i)
+unfolding seconds-of
+second-at s i l = build-at (request-count s) _ i 0 l
+
+pub server-at : (s : List ℕ) (i : ℕ) → i < request-count s → getD (servers-of s) i 0 ≡ le16 s (44 + 6 * i)
+unfolding servers-of
+server-at s i l = build-at (request-count s) _ i 0 l
+
+-- the id has sixteen elements
+pub id-length : (s : List ℕ) → length (id-of s) ≡ 16
+unfolding id-of
+id-length s = build-length 16 _
+
+-- the second before request i, where 0 stands before the seconds
+pub before-is : (seconds : List ℕ) (i : ℕ) → before seconds i ≡ getD (0 ∷ seconds) i 0
+unfolding before
+before-is seconds zero = refl
+before-is seconds (suc i) = refl

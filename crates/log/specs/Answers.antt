@@ -1,0 +1,39 @@
+-- What the reader and the writer answer, and what their lent lists hold at the end. Assumes nothing.
+use mathlib.Core.List.{List, [], _∷_, _++_}
+use Prim.Native.Nat.{ℕ}
+use lib.ListN.{length, replicate}
+use Rattle.base.specs.Refusals.{first, short}
+use Rattle.base.specs.declared.Verdict.{Verdict}
+use Rattle.base.specs.declared.Verdict.the-variants.{Passed, Refused}
+use Rattle.log.specs.declared.Header.{Header}
+use Rattle.log.specs.declared.ReadOutcome.{ReadOutcome}
+use Rattle.log.specs.declared.ReadOutcome.the-variants as read
+use Rattle.log.specs.declared.Decoded.{Decoded}
+use Rattle.log.specs.declared.Written.{Written}
+use Rattle.log.specs.declared.Written.the-variants as write
+use Rattle.log.specs.Fields.{header-of, request-count, length-for}
+use Rattle.log.specs.Conditions.{log-conditions}
+use Rattle.log.specs.Contents.{Contents, contents-conditions}
+
+-- a reader's conditions: the log's, then 31 for seconds and for servers, given the lengths of the lent lists
+unfoldable pub read-verdict : List ℕ → ℕ → ℕ → Verdict
+read-verdict s seconds servers =
+    first (log-conditions s ++ (short (request-count s) seconds ∷ short (request-count s) servers ∷ []))
+
+-- the header of a refused log
+unfoldable pub no-header : Header
+no-header = record { «class» = 0; «server_count» = 0; home = 0; id = replicate 16 0 }
+
+-- the reader's answer by its verdict: header and request count, or the refusal
+unfoldable pub decoded : Verdict → List ℕ → Decoded
+decoded Passed s = record { header = header-of s; outcome = read.Requests (request-count s) }
+decoded (Refused r) s = record { header = no-header; outcome = read.Refused r }
+
+-- a writer's conditions: those on what is to be written, then 31 for the log, given its length
+unfoldable pub write-verdict : Contents → ℕ → Verdict
+write-verdict c log = first (contents-conditions c ++ (short (length-for (length (c .seconds))) log ∷ []))
+
+-- the writer's answer by its verdict: the log's length, or the refusal
+unfoldable pub written : Verdict → Contents → Written
+written Passed c = write.Length (length-for (length (c .seconds)))
+written (Refused r) c = write.Refused r

@@ -1,0 +1,54 @@
+-- The conditions on each request, and a log's verdict part by part, as the code comes by them.
+use mathlib.Core.Bool.{not}
+use mathlib.Core.List.{List, [], _∷_, _++_}
+use mathlib.Core.Path.{_≡_, refl, ap, sym, _∙_}
+use Prim.Native.Nat.{ℕ, zero, suc, _+_, _*_, _<_}
+use native.Mathlib.Omega.{arith}
+use lib.Dec.{eqb}
+use lib.ListN.{getD}
+use Rattle.base.specs.Refusals.{Condition, refuse, first, each}
+use Rattle.base.specs.RefusalLaws.{each-suc, first-append, otherwise}
+use Rattle.base.specs.declared.Verdict.{Verdict}
+use Rattle.base.specs.declared.Verdict.the-variants.{Passed}
+use Rattle.base.specs.Bytes.{le16, le32}
+use Rattle.base.specs.Lists.{build-at}
+use Rattle.log.specs.Fields.{server-count, request-count, seconds-of, servers-of, written-sum}
+use Rattle.log.specs.Sum.{sum-of}
+use Rattle.log.specs.Conditions.{form-conditions, header-conditions, before, request-check, request-conditions, log-conditions, verdict-of}
+
+-- the conditions on each request of a log
+abbrev pub log-requests : List ℕ → ℕ → List Condition
+log-requests s = request-conditions (server-count s) (seconds-of s) (servers-of s)
+
+-- the second of request i, as the next one sees it
+pub before-next : (s : List ℕ) (i : ℕ) → i < request-count s → before (seconds-of s) (suc i) ≡ le32 s (40 + 6 * i)
+unfolding before seconds-of
+before-next s i h = build-at (request-count s) _ i 0 h
+
+pub log-request : (s : List ℕ) (i : ℕ) → i < request-count s
+    → log-requests s i ≡ request-check (server-count s) (le16 s (44 + 6 * i)) (le32 s (40 + 6 * i)) (before (seconds-of s) i) (suc i)
+unfolding request-conditions seconds-of servers-of
+log-request s i h = rw (build-at (request-count s) (λ i. le32 s (40 + 6 * i)) i 0 h, build-at (request-count s) (λ i. le16 s (44 + 6 * i)) i 0 h)
+
+-- one more that passes
+pub each-more : (f : ℕ → List Condition) (i : ℕ) → first (each f i) ≡ Passed → first (f i) ≡ Passed → first (each f (suc i)) ≡ Passed
+each-more f i p q = each-suc f i ∙ rw (p, q)
+
+-- what a check of request i finds, from the values that it was handed
+pub request-found : (s : List ℕ) (i count earlier : ℕ) (v : Verdict) → i < request-count s → count ≡ server-count s → earlier ≡ before (seconds-of s) i
+    → v ≡ first (request-check count (le16 s (44 + 6 * i)) (le32 s (40 + 6 * i)) earlier (suc i)) → first (log-requests s i) ≡ v
+request-found s i count earlier v h p q e = rw (log-request s i h, ← p, ← q) (sym e)
+
+pub list-found : (count : ℕ) (seconds servers : List ℕ) (i earlier place : ℕ) (v : Verdict) → earlier ≡ before seconds i → place ≡ suc i
+    → v ≡ first (request-check count (getD servers i 0) (getD seconds i 0) earlier place) → first (request-conditions count seconds servers i) ≡ v
+unfolding request-conditions
+list-found count seconds servers i earlier place v p q e = rw (← p, ← q) (sym e)
+
+-- the verdict part by part: 1 to 9, 10, then the requests
+pub verdict-parts : (s : List ℕ)
+    → verdict-of s
+    ≡ otherwise (otherwise (first (form-conditions s)) (first (refuse 10 0 (not (eqb (written-sum s) (sum-of s))) ∷ []))) (first (each (log-requests s) (request-count s)))
+unfolding verdict-of log-conditions header-conditions
+verdict-parts s =
+    first-append (header-conditions s) (each (log-requests s) (request-count s))
+    ∙ ap (λ (v : Verdict). otherwise v (first (each (log-requests s) (request-count s)))) (first-append (form-conditions s) _)

@@ -1,0 +1,70 @@
+-- The conditions 1 to 13 of 01's 'Refused because of the input', in its order. Assumes nothing.
+use mathlib.Core.Bool.{Bool, true, false, not}
+use mathlib.Core.List.{List, [], _∷_, _++_}
+use mathlib.Core.Path.{_≡_}
+use Prim.Native.Nat.{ℕ, zero, suc}
+use lib.Dec.{leb, ltb, eqb}
+use lib.ListN.{getD, length}
+use Rattle.base.specs.Choice.{either}
+use Rattle.base.specs.Refusals.{Condition, refuse, first, each}
+use Rattle.base.specs.declared.Verdict.{Verdict}
+use Rattle.base.specs.declared.Verdict.the-variants.{Passed}
+use Rattle.base.specs.Bytes.{byte}
+use Rattle.log.specs.Fields.{version, class-of, server-count, home-of, request-count, requests-offset, id-offset, total-length, written-sum, length-for, seconds-of, servers-of}
+use Rattle.log.specs.Sum.{sum-of}
+
+-- 3 class above 7; 4 server count not 1 to 64; 5 home not below the count
+unfoldable pub setup-conditions : ℕ → ℕ → ℕ → List Condition
+setup-conditions class′ count home =
+    refuse 3 0 (ltb 7 class′) ∷ refuse 4 0 (either (eqb count 0) (ltb 64 count)) ∷ refuse 5 0 (leb count home) ∷ []
+
+-- 1 under 40 bytes; 2 version not 1; 3 to 5; 6 byte 5 not zero; 7 request count above 2,048; 8 an offset or the total not as the
+-- format says; 9 file length not the total
+abbrev pub form-conditions : List ℕ → List Condition
+form-conditions s =
+    refuse 1 0 (ltb (length s) 40)
+    ∷ refuse 2 0 (not (eqb (version s) 1))
+    ∷ (setup-conditions (class-of s) (server-count s) (home-of s)
+    ++ (refuse 6 0 (not (eqb (byte s 5) 0))
+    ∷ refuse 7 0 (ltb 2048 (request-count s))
+    ∷ refuse 8 0
+    (either (not (eqb (requests-offset s) 40))
+    (either (not (eqb (id-offset s) 24)) (not (eqb (total-length s) (length-for (request-count s))))))
+    ∷ refuse 9 0 (not (eqb (length s) (total-length s)))
+    ∷ []))
+
+-- 1 to 9, then 10 the sum
+unfoldable pub header-conditions : List ℕ → List Condition
+header-conditions s = form-conditions s ++ (refuse 10 0 (not (eqb (written-sum s) (sum-of s))) ∷ [])
+
+-- the second before request i, from 0; 0 before the first
+unfoldable pub before : List ℕ → ℕ → ℕ
+before seconds zero = 0
+before seconds (suc i) = getD seconds i 0
+
+-- 11 server not below the count; 12 second 0 or above 4,000,000; 13 not later than the one before
+abbrev pub request-check : ℕ → ℕ → ℕ → ℕ → ℕ → List Condition
+request-check count server second earlier place =
+    refuse 11 place (leb count server)
+    ∷ refuse 12 place (either (eqb second 0) (ltb 4000000 second))
+    ∷ refuse 13 place (leb second earlier)
+    ∷ []
+
+-- the conditions on request i from 0, whose place is counted from 1
+unfoldable pub request-conditions : ℕ → List ℕ → List ℕ → ℕ → List Condition
+request-conditions count seconds servers i =
+    request-check count (getD servers i 0) (getD seconds i 0) (before seconds i) (suc i)
+
+-- all conditions on a log: the header's, then request by request
+unfoldable pub log-conditions : List ℕ → List Condition
+log-conditions s =
+    header-conditions s
+    ++ each (request-conditions (server-count s) (seconds-of s) (servers-of s)) (request-count s)
+
+-- what the bytes of a log are answered: refused by the first condition that holds
+unfoldable pub verdict-of : List ℕ → Verdict
+verdict-of s = first (log-conditions s)
+
+-- an accepted log: no condition holds
+unfoldable pub Accepted : List ℕ → Type 0
+Accepted s = verdict-of s ≡ Passed

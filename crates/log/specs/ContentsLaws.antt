@@ -1,0 +1,51 @@
+-- The conditions on what is to be written, part by part, as the code comes by them.
+use mathlib.Core.Bool.{Bool, true, false, not}
+use mathlib.Core.List.{List, [], _∷_, _++_, append-assoc}
+use mathlib.Core.Path.{_≡_, refl, ap, sym, _∙_}
+use Prim.Native.Nat.{ℕ, _≤_}
+use native.Mathlib.Omega.{arith}
+use lib.Dec.{ltb, eqb}
+use lib.ListN.{length}
+use borrow.Author.Tests.{ltb-false, eqb-true, not-false}
+use Rattle.base.specs.Choice.{either, pick}
+use Rattle.base.specs.Refusals.{Condition, refuse, first, each, or-else}
+use Rattle.base.specs.RefusalLaws.{first-append, otherwise, from, from-first, from-append}
+use Rattle.base.specs.declared.Verdict.{Verdict}
+use Rattle.base.specs.declared.Verdict.the-variants.{Passed, Refused}
+use Rattle.log.specs.Conditions.{setup-conditions, request-conditions}
+use Rattle.log.specs.Contents.{Contents, contents-conditions}
+
+-- 7: more than 2,048 requests, or lists of unequal length
+abbrev pub lengths-condition : ℕ → ℕ → Condition
+lengths-condition n m = refuse 7 0 (either (ltb 2048 n) (not (eqb n m)))
+
+pub contents-parts : (c : Contents)
+    → first (contents-conditions c)
+    ≡ otherwise
+    (or-else (from Passed (setup-conditions (c .header .«class») (c .header .«server_count») (c .header .home))) (lengths-condition (length (c .seconds)) (length (c .servers))))
+    (first (each (request-conditions (c .header .«server_count») (c .seconds) (c .servers)) (length (c .seconds))))
+unfolding contents-conditions from
+contents-parts c =
+    let setup = setup-conditions (c .header .«class») (c .header .«server_count») (c .header .home) in
+    let seven = lengths-condition (length (c .seconds)) (length (c .servers)) ∷ [] in
+    let rest = each (request-conditions (c .header .«server_count») (c .seconds) (c .servers)) (length (c .seconds)) in
+    ap first (sym (append-assoc setup seven rest))
+    ∙ first-append (setup ++ seven) rest
+    ∙ ap (λ (v : Verdict). otherwise v (first rest)) (sym (from-first (setup ++ seven)) ∙ from-append Passed setup seven)
+
+-- a condition that did not refuse does not hold
+pub or-else-passed : (v : Verdict) (c : Condition) → or-else v c ≡ Passed → c .holds ≡ false
+unfolding or-else first
+or-else-passed Passed c e = go (c .holds) refl
+  where
+    go : (b : Bool) → c .holds ≡ b → c .holds ≡ false
+    go false q = q
+    go true q = absurd (let w = rw q at e in let z : _≡_ {A = ℕ} 0 1 = cc in omega arith)
+or-else-passed (Refused r) c e = absurd (let z : _≡_ {A = ℕ} 0 1 = cc in omega arith)
+
+pub lengths-inside : (n m : ℕ) → either (ltb 2048 n) (not (eqb n m)) ≡ false → (n ≡ m) × (n ≤ 2048)
+lengths-inside n m e = go (ltb 2048 n) refl e
+  where
+    go : (b : Bool) → ltb 2048 n ≡ b → either b (not (eqb n m)) ≡ false → (n ≡ m) × (n ≤ 2048)
+    go true q e = absurd (let z : _≡_ {A = ℕ} 0 1 = cc in omega arith)
+    go false q e = (eqb-true n m (not-false _ e), ltb-false 2048 n q)

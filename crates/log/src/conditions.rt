@@ -1,0 +1,221 @@
+// The conditions on a log and on what is to be written, in 01's order.
+ghost use mathlib.Core.Path.{_≡_};
+ghost use mathlib.Core.Bool.{not};
+ghost use Prim.Native.Nat.{suc, _+_, _*_, _<_, _≤_};
+ghost use lib.Dec.{leb, ltb, eqb};
+ghost use lib.ListN.{length};
+ghost use Rattle.base.specs.Choice.{either};
+ghost use Rattle.base.specs.Refusals.{first, each};
+ghost use Rattle.base.specs.RefusalLaws.{from};
+ghost use Rattle.base.specs.Bytes.{le16, le32};
+ghost use Rattle.log.specs.Fields.{server-count, request-count, requests-offset, id-offset, total-length, written-sum, length-for, seconds-of, servers-of};
+ghost use Rattle.log.specs.Sum.{sum-of};
+ghost use Rattle.log.specs.Conditions.{setup-conditions, form-conditions, request-check, request-conditions, verdict-of};
+ghost use Rattle.log.specs.Contents.{contents, contents-conditions};
+use crate::Header;
+use crate::checksum::sum;
+use base::Refusal;
+use base::Verdict;
+use base::bytes::at;
+use base::bytes::at16;
+use base::bytes::at32;
+use base::refusals::or_else;
+
+fn size(x: u16) -> usize
+    ensures { λ r. ⌜ (r ≡ x) × (r < 65536) ⌝ }
+{
+    x as usize
+}
+
+fn word(x: u16) -> u32
+    ensures { λ r. ⌜ (r ≡ x) × (r < 65536) ⌝ }
+{
+    x as u32
+}
+
+fn half(x: u8) -> u16
+    ensures { λ r. ⌜ r ≡ x ⌝ }
+{
+    x as u16
+}
+
+// 1 to 64 servers are allowed.
+fn count_outside(count: u8) -> bool
+    ensures { λ r. ⌜ r ≡ either (eqb count 0) (ltb 64 count) ⌝ }
+{
+    if count == 0 {
+        return true;
+    }
+    64 < count
+}
+
+// 3 to 5.
+pub fn setup_fault(v: Verdict, class: u8, count: u8, home: u8) -> Verdict
+    ensures { λ r. ⌜ r ≡ from v (setup-conditions class count home) ⌝ }
+{
+    let v = or_else(v, 7 < class, 3, 0);
+    let v = or_else(v, count_outside(count), 4, 0);
+    or_else(v, count <= home, 5, 0)
+}
+
+// An offset or the total is not as the format says, for a log of n requests.
+fn misplaced(log: &[u8], n: u16) -> bool
+    ensures { λ r. ⌜ r ≡ either (not (eqb (requests-offset (now (log .entry))) 40)) (either (not (eqb (id-offset (now (log .entry))) 24)) (not (eqb (total-length (now (log .entry))) (length-for n)))) ⌝ }
+{
+    if at32(log, 8) != 40 {
+        return true;
+    }
+    if at32(log, 12) != 24 {
+        return true;
+    }
+    at32(log, 16) != 40 + 6 * word(n)
+}
+
+fn wide(x: u32) -> usize
+    ensures { λ r. ⌜ r ≡ x ⌝ }
+{
+    x as usize
+}
+
+// The file's length is not the total that the log gives.
+fn total_differs(log: &[u8]) -> bool
+    ensures { λ r. ⌜ r ≡ not (eqb (length (now (log .entry))) (total-length (now (log .entry)))) ⌝ }
+{
+    log.len() != wide(at32(log, 16))
+}
+
+// 1 to 9.
+fn form_fault(log: &[u8]) -> Verdict
+    ensures { λ r. ⌜ r ≡ first (form-conditions (now (log .entry))) ⌝ }
+{
+    let n = at16(log, 6);
+    let v = or_else(Verdict::Passed, log.len() < 40, 1, 0);
+    let v = or_else(v, at16(log, 0) != 1, 2, 0);
+    let v = setup_fault(v, at(log, 2), at(log, 3), at(log, 4));
+    let v = or_else(v, at(log, 5) != 0, 6, 0);
+    let v = or_else(v, 2048 < n, 7, 0);
+    let v = or_else(v, misplaced(log, n), 8, 0);
+    or_else(v, total_differs(log), 9, 0)
+}
+
+// The sum is not the one that the log gives.
+fn sum_differs(log: &[u8]) -> bool
+    ensures { λ r. ⌜ r ≡ not (eqb (written-sum (now (log .entry))) (sum-of (now (log .entry)))) ⌝ }
+{
+    at32(log, 20) != sum(log)
+}
+
+// A request is at a second from 1 to 4,000,000.
+fn second_outside(second: u32) -> bool
+    ensures { λ r. ⌜ r ≡ either (eqb second 0) (ltb 4000000 second) ⌝ }
+{
+    if second == 0 {
+        return true;
+    }
+    4000000 < second
+}
+
+// 11 to 13 for one request.
+fn request_fault(count: u8, server: u16, second: u32, earlier: u32, place: u64) -> Verdict
+    ensures { λ r. ⌜ r ≡ first (request-check count server second earlier place) ⌝ }
+{
+    let v = or_else(Verdict::Passed, half(count) <= server, 11, place);
+    let v = or_else(v, second_outside(second), 12, place);
+    or_else(v, second <= earlier, 13, place)
+}
+
+// Requests are counted from 1.
+fn place(i: usize) -> u64
+    requires { ⌜ i < 65536 ⌝ }
+    ensures { λ r. ⌜ r ≡ suc i ⌝ }
+{
+    i as u64 + 1
+}
+
+// 11 to 13 for request i of a log, after a request at second `earlier`.
+fn fault_at(log: &[u8], count: u8, i: u16, earlier: u32) -> Verdict
+    ensures { λ r. ⌜ r ≡ first (request-check count (le16 (now (log .entry)) (44 + 6 * i)) (le32 (now (log .entry)) (40 + 6 * i)) earlier (suc i)) ⌝ }
+{
+    let k = size(i);
+    let server = at16(log, 44 + 6 * k);
+    let second = at32(log, 40 + 6 * k);
+    request_fault(count, server, second, earlier, place(k))
+}
+
+// 11 to 13 for each request of a log.
+fn requests_fault(log: &[u8]) -> Verdict
+    ensures { λ r. ⌜ r ≡ first (each (request-conditions (server-count (now (log .entry))) (seconds-of (now (log .entry))) (servers-of (now (log .entry)))) (request-count (now (log .entry)))) ⌝ }
+{
+    let count = at(log, 3);
+    let n = at16(log, 6);
+    let mut earlier: u32 = 0;
+    let mut i: u16 = 0;
+    while i < n {
+        let v = fault_at(log, count, i, earlier);
+        if let Verdict::Refused(r) = v {
+            return Verdict::Refused(r);
+        }
+        earlier = at32(log, 40 + 6 * size(i));
+        i += 1;
+    }
+    Verdict::Passed
+}
+
+// What the bytes of a log are answered.
+pub fn verdict(log: &[u8]) -> Verdict
+    ensures { λ r. ⌜ r ≡ verdict-of (now (log .entry)) ⌝ }
+{
+    let v = form_fault(log);
+    if let Verdict::Refused(r) = v {
+        return Verdict::Refused(r);
+    }
+    if sum_differs(log) {
+        return Verdict::Refused(Refusal {
+            number: 10,
+            place: 0,
+        });
+    }
+    requests_fault(log)
+}
+
+// More than 2,048 requests, or lists of unequal length.
+fn lengths_outside(seconds: usize, servers: usize) -> bool
+    ensures { λ r. ⌜ r ≡ either (ltb 2048 seconds) (not (eqb seconds servers)) ⌝ }
+{
+    if 2048 < seconds {
+        return true;
+    }
+    seconds != servers
+}
+
+// 11 to 13 for each request of two lists of one length.
+fn lists_fault(count: u8, seconds: &[u32], servers: &[u16]) -> Verdict
+    requires { ⌜ (length (now seconds) ≡ length (now servers)) × (length (now seconds) ≤ 2048) ⌝ }
+    ensures { λ r. ⌜ r ≡ first (each (request-conditions count (now (seconds .entry)) (now (servers .entry))) (length (now (seconds .entry)))) ⌝ }
+{
+    let mut earlier: u32 = 0;
+    let mut i: usize = 0;
+    while i < seconds.len() {
+        let second = seconds[i];
+        let v = request_fault(count, servers[i], second, earlier, place(i));
+        if let Verdict::Refused(r) = v {
+            return Verdict::Refused(r);
+        }
+        earlier = second;
+        i += 1;
+    }
+    Verdict::Passed
+}
+
+// What the writer answers to a header and two lists.
+pub fn contents_fault(header: Header, seconds: &[u32], servers: &[u16]) -> Verdict
+    ensures { λ r. ⌜ r ≡ first (contents-conditions (contents header (now (seconds .entry)) (now (servers .entry)))) ⌝ }
+{
+    let count = header.server_count;
+    let v = setup_fault(Verdict::Passed, header.class, count, header.home);
+    let v = or_else(v, lengths_outside(seconds.len(), servers.len()), 7, 0);
+    if let Verdict::Refused(r) = v {
+        return Verdict::Refused(r);
+    }
+    lists_fault(count, seconds, servers)
+}

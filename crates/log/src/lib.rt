@@ -1,0 +1,38 @@
+// The log format of 01's 'The log': read, write, sum.
+mod checksum;
+mod conditions;
+mod reader;
+mod writer;
+
+use base::Refusal;
+pub use checksum::sum;
+pub use conditions::setup_fault;
+pub use conditions::verdict;
+pub use reader::read;
+pub use writer::write;
+
+// What a log says of its file: price class, number of servers (01: stations), home server, file id (01: pass id).
+pub struct Header {
+    pub class: u8,
+    pub server_count: u8,
+    pub home: u8,
+    pub id: [u8; 16],
+}
+
+// The number of requests (01: scans) read, or why the log is refused.
+pub enum ReadOutcome {
+    Requests(u16),
+    Refused(Refusal),
+}
+
+// The reader's answer. A refused log has a header of zeros.
+pub struct Decoded {
+    pub header: Header,
+    pub outcome: ReadOutcome,
+}
+
+// The writer's answer: the length of the log, or why it is not written.
+pub enum Written {
+    Length(u64),
+    Refused(Refusal),
+}

@@ -1,0 +1,151 @@
+// The writer.
+ghost use mathlib.Core.Path.{_≡_};
+ghost use mathlib.Core.List.{_++_};
+ghost use Prim.Native.Nat.{_+_, _*_, _≤_, _<_};
+ghost use lib.ListN.{length, take, drop};
+ghost use Rattle.base.specs.Bytes.{bytes};
+ghost use Rattle.base.specs.Lent.{lent};
+ghost use Rattle.base.specs.Lists.{splice};
+ghost use Rattle.log.specs.Fields.{length-for};
+ghost use Rattle.log.specs.Sum.{sum-of};
+ghost use Rattle.log.specs.Contents.{contents, head, request-bytes, requests-bytes, encode};
+ghost use Rattle.log.specs.Answers.{write-verdict, written};
+use crate::Header;
+use crate::Written;
+use crate::checksum::sum;
+use crate::conditions::contents_fault;
+use base::Verdict;
+use base::bytes::clear8;
+use base::bytes::copy;
+use base::bytes::le_bytes16;
+use base::bytes::le_bytes32;
+use base::refusals::or_else;
+
+fn half(n: usize) -> u16
+    requires { ⌜ n ≤ 2048 ⌝ }
+    ensures { λ r. ⌜ r ≡ n ⌝ }
+{
+    n as u16
+}
+
+fn word(n: usize) -> u32
+    requires { ⌜ n ≤ 2048 ⌝ }
+    ensures { λ r. ⌜ r ≡ n ⌝ }
+{
+    n as u32
+}
+
+fn long(n: usize) -> u64
+    ensures { λ r. ⌜ r ≡ n ⌝ }
+{
+    n as u64
+}
+
+// Bytes 0 to 19 of a log of n requests.
+fn front(header: Header, n: usize) -> [u8; 20]
+    requires { ⌜ n ≤ 2048 ⌝ }
+    ensures { λ r. ⌜ r ≡ head header n ⌝ }
+{
+    let c = le_bytes16(half(n));
+    let t = le_bytes32(40 + 6 * word(n));
+    [
+        1,
+        0,
+        header.class,
+        header.server_count,
+        header.home,
+        0,
+        c[0],
+        c[1],
+        40,
+        0,
+        0,
+        0,
+        24,
+        0,
+        0,
+        0,
+        t[0],
+        t[1],
+        t[2],
+        t[3],
+    ]
+}
+
+// The six bytes of a request.
+fn request(second: u32, server: u16) -> [u8; 6]
+    ensures { λ r. ⌜ r ≡ bytes 4 second ++ bytes 2 server ⌝ }
+{
+    let a = le_bytes32(second);
+    let b = le_bytes16(server);
+    [a[0], a[1], a[2], a[3], b[0], b[1]]
+}
+
+// Bytes 0 to 19 and the id, into a log that is long enough.
+fn put_head(header: Header, n: usize, log: &mut [u8])
+    requires { ⌜ (n ≤ 2048) × (40 ≤ length (now log)) ⌝ }
+    ensures { λ _. ⌜ now (log .exit) ≡ splice 24 (header .id) (splice 0 (head header n) (now (log .entry))) ⌝ }
+{
+    let id = header.id;
+    copy(log, 0, &front(header, n));
+    copy(log, 24, &id);
+}
+
+// Request k, into its place.
+fn put_request(seconds: &[u32], servers: &[u16], k: usize, log: &mut [u8])
+    requires { ⌜ (k < length (now seconds)) × (k < length (now servers)) × (k < 2048) ⌝ }
+    ensures { λ _. ⌜ now (log .exit) ≡ splice (40 + 6 * k) (request-bytes (now (seconds .entry)) (now (servers .entry)) k) (now (log .entry)) ⌝ }
+{
+    copy(log, 40 + 6 * k, &request(seconds[k], servers[k]));
+}
+
+// All requests, from 40 on.
+fn put_requests(seconds: &[u32], servers: &[u16], log: &mut [u8])
+    requires { ⌜ (length (now seconds) ≡ length (now servers)) × (length (now seconds) ≤ 2048) × (40 + 6 * length (now seconds) ≤ length (now log)) ⌝ }
+    ensures { λ _. ⌜ now (log .exit) ≡ take 40 (now (log .entry)) ++ (requests-bytes (now (seconds .entry)) (now (servers .entry)) (length (now (seconds .entry))) ++ drop (40 + 6 * length (now (seconds .entry))) (now (log .entry))) ⌝ }
+{
+    let mut k: usize = 0;
+    while k < seconds.len() {
+        put_request(seconds, servers, k, log);
+        k += 1;
+    }
+}
+
+// The sum of the first `total` bytes, into its place.
+fn put_sum(total: usize, log: &mut [u8])
+    requires { ⌜ total ≤ length (now log) ⌝ }
+    ensures { λ _. ⌜ now (log .exit) ≡ splice 20 (bytes 4 (sum-of (take total (now (log .entry))))) (now (log .entry)) ⌝ }
+{
+    let s = sum(&log[..total]);
+    copy(log, 20, &le_bytes32(s));
+}
+
+// The conditions on what is to be written, then 31 for the log.
+fn write_fault(header: Header, seconds: &[u32], servers: &[u16], log: usize) -> Verdict
+    ensures { λ r. ⌜ r ≡ write-verdict (contents header (now (seconds .entry)) (now (servers .entry))) log ⌝ }
+{
+    let v = contents_fault(header, seconds, servers);
+    if let Verdict::Refused(r) = v {
+        return Verdict::Refused(r);
+    }
+    let total = 40 + 6 * seconds.len();
+    or_else(Verdict::Passed, log < total, 31, long(total))
+}
+
+// Write a log: its bytes into what is lent, and zeros after them.
+pub fn write(header: Header, seconds: &[u32], servers: &[u16], log: &mut [u8]) -> Written
+    ensures { λ r. ⌜ r ≡ written (write-verdict (contents header (now (seconds .entry)) (now (servers .entry))) (length (now (log .entry)))) (contents header (now (seconds .entry)) (now (servers .entry))) ⌝ }
+    ensures { λ _. ⌜ now (log .exit) ≡ lent (write-verdict (contents header (now (seconds .entry)) (now (servers .entry))) (length (now (log .entry)))) (encode (contents header (now (seconds .entry)) (now (servers .entry)))) (now (log .entry)) ⌝ }
+{
+    let v = write_fault(header, seconds, servers, log.len());
+    if let Verdict::Refused(r) = v {
+        return Written::Refused(r);
+    }
+    let n = seconds.len();
+    let total = 40 + 6 * n;
+    put_head(header, n, log);
+    put_requests(seconds, servers, log);
+    clear8(log, total);
+    put_sum(total, log);
+    Written::Length(long(total))
+}

@@ -1,0 +1,61 @@
+-- The conditions of a list of numbers as a schedule, in 01's order (14 to 18), and what the checker answers. Assumes nothing.
+use mathlib.Core.Bool.{Bool, not}
+use mathlib.Core.List.{List, [], _∷_, _++_}
+use Prim.Native.Nat.{ℕ, suc, pred, _*_, _/_, _%_}
+use lib.Dec.{ltb, eqb}
+use lib.ListN.{getD, length}
+use Rattle.base.specs.declared.Verdict.{Verdict}
+use Rattle.base.specs.Choice.{both, either}
+use Rattle.base.specs.Refusals.{Condition, refuse, first, each}
+use Rattle.prices.specs.declared.Prices.{Prices}
+use Rattle.model.specs.Requests.{Requests}
+use Rattle.model.specs.Schedule.{Row, hold, move, transfer, cost-of}
+use Rattle.model.specs.Standing.{stands}
+use Rattle.model.specs.RowForm.{row-at, rows-of, fits, follows}
+
+-- the number of rows of a list of numbers, four for each
+unfoldable pub row-count : List ℕ → ℕ
+row-count ns = length ns / 4
+
+-- 15: the kind of row i is above 1, there is no request, or the row does not fit
+unfoldable pub misfits : ℕ → Requests → ℕ → List ℕ → ℕ → Bool
+misfits count q n ns i =
+    either (ltb 1 (getD ns (4 * i) 0)) (either (eqb n 0) (not (fits count (q .time n) (row-at ns i))))
+
+-- 16: there is a row before row i, and row i may not follow it
+unfoldable pub misplaced : List ℕ → ℕ → Bool
+misplaced ns i = both (ltb 0 i) (not (follows (row-at ns (pred i)) (row-at ns i)))
+
+-- row i, from 0: 15, then 16
+unfoldable pub row-conditions : ℕ → Requests → ℕ → List ℕ → ℕ → List Condition
+row-conditions count q n ns i =
+    refuse 15 (suc i) (misfits count q n ns i) ∷ refuse 16 (suc i) (misplaced ns i) ∷ []
+
+-- a copy stands where and when a hold begins or a transfer leaves
+unfoldable pub backed : ℕ → ℕ → List Row → Row → Bool
+backed count home rows (hold x a b) = stands count home rows x a
+backed count home rows (move (transfer y x τ)) = stands count home rows y τ
+
+-- row i, from 0: 17, no copy at its start or source
+unfoldable pub copy-condition : ℕ → Requests → List ℕ → ℕ → List Condition
+copy-condition count q ns i = refuse 17 (suc i) (not (backed count (q .server 0) (rows-of ns) (row-at ns i))) ∷ []
+
+-- request i + 1: 18, no copy at its server and second
+unfoldable pub serve-condition : ℕ → Requests → List ℕ → ℕ → List Condition
+serve-condition count q ns i =
+    refuse 18 (suc i) (not (stands count (q .server 0) (rows-of ns) (q .server (suc i)) (q .time (suc i)))) ∷ []
+
+-- 14, then each row's 15 and 16, then each row's 17, then each request's 18
+unfoldable pub schedule-conditions : ℕ → Requests → ℕ → List ℕ → List Condition
+schedule-conditions count q n ns =
+    refuse 14 0 (not (eqb (length ns % 4) 0))
+    ∷ (each (row-conditions count q n ns) (row-count ns)
+    ++ (each (copy-condition count q ns) (row-count ns) ++ each (serve-condition count q ns) n))
+
+-- refused by the first of these that holds, or passed
+unfoldable pub check-verdict : ℕ → Requests → ℕ → List ℕ → Verdict
+check-verdict count q n ns = first (schedule-conditions count q n ns)
+
+-- the cost that the checker answers where none holds
+unfoldable pub check-cost : Prices → List ℕ → ℕ
+check-cost p ns = cost-of p (rows-of ns)

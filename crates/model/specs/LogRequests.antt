@@ -1,0 +1,15 @@
+-- The requests and prices of a log. Assumes nothing.
+use mathlib.Core.List.{List}
+use Prim.Native.Nat.{ℕ}
+use Rattle.prices.specs.declared.Prices.{Prices}
+use Rattle.prices.specs.Prices.{prices-of}
+use Rattle.log.specs.Fields.{class-of, home-of, seconds-of, servers-of}
+use Rattle.model.specs.Requests.{Requests, requests}
+
+-- the requests of a log, with its home before them
+unfoldable pub requests-in : List ℕ → Requests
+requests-in log = requests (home-of log) (seconds-of log) (servers-of log)
+
+-- the prices of a log's class
+unfoldable pub prices-in : List ℕ → Prices
+prices-in log = prices-of (class-of log)

@@ -1,0 +1,49 @@
+-- The rows of a legal marking: well formed, feasible, at most two for each request, and they cost what the marking costs.
+use mathlib.Core.Bool.{true}
+use mathlib.Core.List.{List}
+use mathlib.Core.Path.{_≡_}
+use Prim.Native.Nat.{ℕ, _*_, _≤_}
+use lib.ListN.{length}
+use Rattle.prices.specs.declared.Prices.{Prices}
+use Rattle.model.specs.Requests.{Requests, Rising, Within}
+use Rattle.model.specs.Schedule.{Row, Feasible, cost-of}
+use Rattle.model.specs.RowForm.{well-formed}
+use Rattle.model.specs.Marking.{Mark, holds, cost, source, rows-from, rows}
+use Rattle.model.specs.Valid.{Valid, Good}
+use Rattle.model.specs.LowestLaws.{lowest-passes}
+use Rattle.model.specs.HolderLaws.{gap-held}
+use Rattle.model.specs.RowsFeasible.{rows-feasible}
+use Rattle.model.specs.RowsFormed.{rows-formed}
+use Rattle.model.specs.RowsCost.{rows-cost, rows-few}
+
+-- what the rows of a marking of n requests are
+pub record Realizes (q : Requests) (count : ℕ) (m : ℕ → Mark) (n : ℕ) (rows : List Row) : Type 0 where
+  pub formed : well-formed count n (q .time n) rows ≡ true
+  pub feasible : Feasible q n rows
+  pub few : length rows ≤ 2 * n
+  pub costs : (p : Prices) → cost-of p rows ≡ cost p q m n
+
+-- with any holders as sources
+pub rows-from-realize : (q : Requests) (count : ℕ) (m : ℕ → Mark) (n : ℕ) (from : ℕ → ℕ)
+    → Rising q n → Within count q n → Valid q m n → Good count q m n from → Realizes q count m n (rows-from q count m n from)
+rows-from-realize q count m n from rise within valid good =
+    record {
+      formed = rows-formed q count m n from rise within valid good;
+      feasible = rows-feasible q count m n from rise within valid good;
+      few = rows-few q count m n from within;
+      costs = rows-cost q count m n from rise within valid;
+    }
+
+-- the lowest-numbered holder is a good source
+pub source-good : (q : Requests) (count : ℕ) (m : ℕ → Mark) (n : ℕ) → Within count q n → Good count q m n (source q count m n)
+unfolding source
+source-good q count m n within i a b e =
+    let h = gap-held q m n count within i a b in
+    lowest-passes count (holds q m n i) (h .0) (h .1) (h .2)
+
+-- with the lowest-numbered holders as sources
+pub rows-realize : (q : Requests) (count : ℕ) (m : ℕ → Mark) (n : ℕ)
+    → Rising q n → Within count q n → Valid q m n → Realizes q count m n (rows q count m n)
+unfolding rows
+rows-realize q count m n rise within valid =
+    rows-from-realize q count m n (source q count m n) rise within valid (source-good q count m n within)

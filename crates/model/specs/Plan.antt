@@ -1,0 +1,43 @@
+-- The plan: of all legal markings with the least cost, at the latest request where two differ, the K (01's 'The plan'). Assumes nothing.
+use mathlib.Core.Bool.{Bool, true, false}
+use mathlib.Core.List.{List, [], _∷_, _++_, map}
+use Prim.Native.Nat.{ℕ, zero, suc}
+use lib.Dec.{ltb, eqb}
+use Rattle.base.specs.Choice.{pick}
+use Rattle.prices.specs.declared.Prices.{Prices}
+use Rattle.model.specs.Requests.{Requests}
+use Rattle.model.specs.Schedule.{Row}
+use Rattle.model.specs.Marking.{Mark, K, S, legal, cost, rows}
+
+-- m with mark a at request i
+unfoldable pub put-mark : (ℕ → Mark) → ℕ → Mark → ℕ → Mark
+put-mark m i a j = pick (eqb j i) a (m j)
+
+-- the legal markings of the first n requests, the latest request most significant and K before S
+unfoldable pub markings : Requests → ℕ → List (ℕ → Mark)
+markings q zero = (λ i. S) ∷ []
+markings q (suc n) =
+    pick (legal q (suc n) K) (map (λ m. put-mark m (suc n) K) (markings q n)) []
+    ++ pick (legal q (suc n) S) (map (λ m. put-mark m (suc n) S) (markings q n)) []
+
+-- the first of a and a list at which a number is least
+unfoldable pub first-least : {A : Type 0} → (A → ℕ) → A → List A → A
+first-least f a [] = a
+first-least f a (b ∷ bs) = first-least f (pick (ltb (f b) (f a)) b a) bs
+
+-- the same for a list, or d where it is empty (no list of markings is)
+unfoldable pub least-of : {A : Type 0} → (A → ℕ) → A → List A → A
+least-of f d [] = d
+least-of f d (a ∷ bs) = first-least f a bs
+
+-- the plan's marks for the first n requests
+unfoldable pub plan : Prices → Requests → ℕ → ℕ → Mark
+plan p q n = least-of (λ m. cost p q m n) (λ i. S) (markings q n)
+
+-- what the plan costs
+unfoldable pub plan-cost : Prices → Requests → ℕ → ℕ
+plan-cost p q n = cost p q (plan p q n) n
+
+-- the plan's rows, with servers below the count
+unfoldable pub plan-rows : Prices → Requests → ℕ → ℕ → List Row
+plan-rows p q count n = rows q count (plan p q n) n
