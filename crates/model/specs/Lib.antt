@@ -48,3 +48,4 @@ pub mod Ties
 pub mod Valid
 pub mod Walk
 pub mod Least
+pub mod LogRequestLaws
