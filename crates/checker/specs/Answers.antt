@@ -1,0 +1,29 @@
+-- What the checker answers, by the conditions 1 to 18 of 01's 'Refused because of the input'. Assumes nothing.
+use mathlib.Core.List.{List, _++_}
+use Prim.Native.Nat.{ℕ}
+use Rattle.base.specs.declared.Verdict.{Verdict}
+use Rattle.base.specs.declared.Verdict.the-variants.{Passed, Refused}
+use Rattle.base.specs.Refusals.{Condition, first}
+use Rattle.log.specs.Fields.{server-count, request-count}
+use Rattle.log.specs.Conditions.{log-conditions}
+use Rattle.model.specs.LogRequests.{requests-in, prices-in}
+use Rattle.model.specs.Checking.{schedule-conditions, check-cost}
+use Rattle.checker.specs.declared.Checked.{Checked}
+use Rattle.checker.specs.declared.Checked.the-variants as answer
+
+-- the log's conditions, 1 to 13, then the schedule's, 14 to 18
+unfoldable pub check-conditions : List ℕ → List ℕ → List Condition
+check-conditions log ns = log-conditions log ++ schedule-conditions (server-count log) (requests-in log) (request-count log) ns
+
+-- refused by the first of these that holds, or passed
+unfoldable pub check-verdict-of : List ℕ → List ℕ → Verdict
+check-verdict-of log ns = first (check-conditions log ns)
+
+-- the answer by a verdict: the cost, or the refusal
+unfoldable pub checked : Verdict → ℕ → Checked
+checked Passed cost = answer.Cost cost
+checked (Refused r) cost = answer.Refused r
+
+-- what the checker answers to the bytes of a log and the numbers of a schedule
+unfoldable pub check-answer : List ℕ → List ℕ → Checked
+check-answer log ns = checked (check-verdict-of log ns) (check-cost (prices-in log) ns)

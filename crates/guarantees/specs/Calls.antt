@@ -1,0 +1,146 @@
+-- Demand 1, over the definitions that the contracts cite: a call is refused with r exactly if r is given by the first of its conditions that
+-- holds; a refusal leaves each lent list as it was, an acceptance gives the answer and then zeros, and no lent list changes its length.
+use mathlib.Core.Bool.{false}
+use mathlib.Core.List.{List, [], _∷_, _++_}
+use mathlib.Core.Logic.{_↔_}
+use mathlib.Core.Path.{_≡_, refl, ap, sym, _∙_}
+use Prim.Native.Nat.{ℕ, suc, _-_, _≤_}
+use native.Mathlib.Omega.{arith}
+use borrow.Author.Tests.{ltb-false}
+use lib.ListN.{length, replicate, length-append, length-replicate}
+use Rattle.base.specs.declared.Refusal.{Refusal}
+use Rattle.base.specs.declared.Verdict.{Verdict}
+use Rattle.base.specs.declared.Verdict.the-variants.{Passed, Refused}
+use Rattle.base.specs.Refusals.{Condition, first, short}
+use Rattle.base.specs.RefusalLaws.{nth, First, first-refused, first-passed, first-append, otherwise-passed}
+use Rattle.base.specs.Lent.{lent}
+use Rattle.base.specs.Lists.{build-length}
+use Rattle.log.specs.Fields.{request-count, seconds-of, servers-of, length-for}
+use Rattle.log.specs.Conditions.{setup-conditions, log-conditions, verdict-of}
+use Rattle.log.specs.Contents.{Contents, contents-conditions, encode}
+use Rattle.log.specs.Answers.{read-verdict, write-verdict}
+use Rattle.log.specs.AnswerLaws.{read-passed, write-passed}
+use Rattle.log.specs.AcceptedLaws.{seconds-length, servers-length}
+use Rattle.log.specs.EncodeLaws.{Sixteen, encode-length}
+use Rattle.checker.specs.Answers.{check-conditions, check-verdict-of}
+use Rattle.planner.specs.Answers.{marks-of, rows-of-plan, plan-verdict, least-costs, least-verdict}
+use Rattle.online.specs.declared.Cache.{Cache}
+use Rattle.online.specs.Conditions.{scan-conditions, close-conditions}
+use Rattle.online.specs.Answers.{start-verdict, scan-verdict, close-verdict}
+
+-- a verdict is that of a list of conditions
+pub record Decided (cs : List Condition) (v : Verdict) : Type 0 where
+  pub refused : (r : Refusal) → (v ≡ Refused r) ↔ First cs r
+  pub passed : (v ≡ Passed) ↔ ((i : ℕ) → nth cs i .holds ≡ false)
+
+decided : (cs : List Condition) → Decided cs (first cs)
+decided cs = record { refused = first-refused cs; passed = first-passed cs }
+
+-- what a lent list holds at the end
+pub record Left (v : Verdict) (answer entry : List ℕ) : Type 0 where
+  pub unchanged : (r : Refusal) → v ≡ Refused r → lent v answer entry ≡ entry
+  pub given : v ≡ Passed → lent v answer entry ≡ answer ++ replicate (length entry - length answer) 0
+  pub as-long : length (lent v answer entry) ≡ length entry
+
+left : (v : Verdict) (answer entry : List ℕ) → (v ≡ Passed → length answer ≤ length entry) → Left v answer entry
+unfolding lent
+left v answer entry h =
+    record { unchanged = λ r e. rw e; given = λ e. rw e; as-long = as-long v refl }
+  where
+    as-long : (w : Verdict) → v ≡ w → length (lent v answer entry) ≡ length entry
+    as-long Passed e =
+        rw e (simp (length-append, length-replicate {A = ℕ} (length entry - length answer) 0) (omega (arith, h e)))
+    as-long (Refused r) e = rw e
+
+-- reading a log
+pub read-decided : (log : List ℕ) (seconds servers : ℕ)
+    → Decided (log-conditions log ++ (short (request-count log) seconds ∷ short (request-count log) servers ∷ [])) (read-verdict log seconds servers)
+unfolding read-verdict
+read-decided log seconds servers = decided _
+
+pub read-left : (log seconds servers : List ℕ) → let v = read-verdict log (length seconds) (length servers) in
+    Left v (seconds-of log) seconds × Left v (servers-of log) servers
+read-left log seconds servers = (
+  left v (seconds-of log) seconds (λ e. omega (arith, seconds-length log, read-passed log _ _ e)),
+  left v (servers-of log) servers (λ e. omega (arith, servers-length log, read-passed log _ _ e)),
+)
+  where
+    v : Verdict
+    v = read-verdict log (length seconds) (length servers)
+
+-- writing a log
+pub write-decided : (c : Contents) (log : ℕ)
+    → Decided (contents-conditions c ++ (short (length-for (length (c .seconds))) log ∷ [])) (write-verdict c log)
+unfolding write-verdict
+write-decided c log = decided _
+
+pub write-left : (c : Contents) (log : List ℕ) → Sixteen c → Left (write-verdict c (length log)) (encode c) log
+write-left c log h =
+    left (write-verdict c (length log)) (encode c) log (λ e. omega (arith, encode-length c h, write-passed c (length log) e))
+
+-- checking a schedule
+pub check-decided : (log rows : List ℕ) → Decided (check-conditions log rows) (check-verdict-of log rows)
+unfolding check-verdict-of
+check-decided log rows = decided (check-conditions log rows)
+
+-- planning: marks are looked at before rows
+pub plan-decided : (log : List ℕ) (marks rows : ℕ)
+    → Decided (log-conditions log ++ (short (request-count log) marks ∷ short (length (rows-of-plan log)) rows ∷ [])) (plan-verdict log marks rows)
+unfolding plan-verdict
+plan-decided log marks rows = decided _
+
+marks-length : (log : List ℕ) → length (marks-of log) ≡ request-count log
+unfolding marks-of
+marks-length log = build-length (request-count log) _
+
+pub plan-left : (log marks rows : List ℕ) → let v = plan-verdict log (length marks) (length rows) in
+    Left v (marks-of log) marks × Left v (rows-of-plan log) rows
+unfolding plan-verdict
+plan-left log marks rows = (
+  left v (marks-of log) marks (λ e. omega (arith, marks-length log, ltb-false (length marks) (request-count log) (room e 0))),
+  left v (rows-of-plan log) rows (λ e. ltb-false (length rows) (length (rows-of-plan log)) (room e 1)),
+)
+  where
+    v : Verdict
+    v = plan-verdict log (length marks) (length rows)
+
+    outputs : List Condition
+    outputs = short (request-count log) (length marks) ∷ short (length (rows-of-plan log)) (length rows) ∷ []
+
+    room : v ≡ Passed → (i : ℕ) → nth outputs i .holds ≡ false
+    room e = first-passed outputs .0 (otherwise-passed (first (log-conditions log)) (first outputs) (sym (first-append (log-conditions log) outputs) ∙ e) .1)
+
+-- the least cost of every prefix
+pub least-decided : (log : List ℕ) (costs : ℕ)
+    → Decided (log-conditions log ++ (short (suc (request-count log)) costs ∷ [])) (least-verdict log costs)
+unfolding least-verdict
+least-decided log costs = decided _
+
+least-length : (log : List ℕ) → length (least-costs log) ≡ suc (request-count log)
+unfolding least-costs
+least-length log = build-length (suc (request-count log)) _
+
+pub least-left : (log costs : List ℕ) → Left (least-verdict log (length costs)) (least-costs log) costs
+unfolding least-verdict
+least-left log costs =
+    left (least-verdict log (length costs)) (least-costs log) costs
+    (λ e. omega (arith, least-length log, ltb-false (length costs) (suc (request-count log)) (room e 0)))
+  where
+    outputs : List Condition
+    outputs = short (suc (request-count log)) (length costs) ∷ []
+
+    room : least-verdict log (length costs) ≡ Passed → (i : ℕ) → nth outputs i .holds ≡ false
+    room e = first-passed outputs .0 (otherwise-passed (first (log-conditions log)) (first outputs) (sym (first-append (log-conditions log) outputs) ∙ e) .1)
+
+-- the online cache's calls; they are lent nothing
+pub start-decided : (class′ count home : ℕ) → Decided (setup-conditions class′ count home) (start-verdict class′ count home)
+unfolding start-verdict
+start-decided class′ count home = decided _
+
+pub scan-decided : (c : Cache) (second server : ℕ) → Decided (scan-conditions c second server) (scan-verdict c second server)
+unfolding scan-verdict
+scan-decided c second server = decided _
+
+pub close-decided : (c : Cache) → Decided (close-conditions c) (close-verdict c)
+unfolding close-verdict
+close-decided c = decided _

@@ -1,0 +1,110 @@
+-- Demand 3 whole. The planner's half: every accepted log, cut to its first requests. The online half: every list of calls after a start.
+use mathlib.Core.Bool.{true}
+use mathlib.Core.List.{List, [], _∷_, _++_}
+use mathlib.Core.Path.{_≡_, refl, ap, sym, _∙_}
+use Prim.Native.Nat.{ℕ, suc, _≤_}
+use native.Mathlib.Omega.{arith}
+use borrow.Author.Tests.{le-ltb}
+use lib.ListN.{length, getD}
+use Rattle.base.specs.declared.Verdict.the-variants.{Passed}
+use Rattle.base.specs.Refusals.{first, short}
+use Rattle.base.specs.RefusalLaws.{first-append, first-failed}
+use Rattle.base.specs.Lists.{build-at}
+use Rattle.log.specs.Fields.{request-count, server-count}
+use Rattle.log.specs.Conditions.{Accepted, verdict-of, log-conditions}
+use Rattle.log.specs.Contents.{decode, first-requests, cut}
+use Rattle.log.specs.Cutting.{cut-accepted, cut-decodes, cut-count}
+use Rattle.model.specs.Requests.{Rising, Within}
+use Rattle.model.specs.LogRequests.{requests-in, prices-in}
+use Rattle.model.specs.LogRequestLaws.{log-rising, log-within, cut-alike, cut-prices, cut-server-count}
+use Rattle.model.specs.Alike.{best-alike}
+use Rattle.model.specs.Plan.{plan-cost, plan-rows}
+use Rattle.model.specs.PlanLaws.{plan-best}
+use Rattle.model.specs.Checking.{check-cost, schedule-conditions}
+use Rattle.model.specs.CheckingLaws.{flat-accepted, flat-cost}
+use Rattle.model.specs.RowForm.{flat}
+use Rattle.checker.specs.declared.Checked.{Checked}
+use Rattle.checker.specs.declared.Checked.the-variants as answer
+use Rattle.checker.specs.Answers.{check-conditions, check-verdict-of, checked, check-answer}
+use Rattle.planner.specs.Answers.{planned-rows, rows-of-plan, plan-verdict, least-costs}
+use Rattle.online.specs.Answers.{start-verdict}
+use Rattle.online.specs.Calls.{Call}
+use Rattle.online.specs.Claim.{Claim, claim}
+use Rattle.guarantees.specs.Optimality.{Optimal, optimal}
+
+-- the planner's answer for an accepted log cut to its first k requests
+pub record Planned-best (log : List ℕ) (k : ℕ) : Type 0 where
+  -- the cut log is a log, and says the first k requests
+  pub accepted : Accepted (cut k log)
+  pub says : decode (cut k log) ≡ first-requests k (decode log)
+  -- with outputs long enough it is not refused
+  pub answered : (marks rows : ℕ) → k ≤ marks → length (rows-of-plan (cut k log)) ≤ rows → plan-verdict (cut k log) marks rows ≡ Passed
+  -- the checker accepts the planned rows with the planned cost
+  pub checks : check-answer (cut k log) (rows-of-plan (cut k log)) ≡ answer.Cost (plan-cost (prices-in (cut k log)) (requests-in (cut k log)) k)
+  -- they are well formed and feasible, cost that, and no feasible schedule costs less
+  pub best : Optimal (prices-in (cut k log)) (server-count (cut k log)) (requests-in (cut k log)) k
+  -- and it is the least cost that `least` gives for the first k requests
+  pub least-is : getD (least-costs log) k 0 ≡ plan-cost (prices-in (cut k log)) (requests-in (cut k log)) k
+
+module _ (log : List ℕ) (k : ℕ) (a : Accepted log) (h : k ≤ request-count log) where
+  part : List ℕ
+  part = cut k log
+
+  part-accepted : Accepted part
+  unfolding part
+  part-accepted = cut-accepted log k a h
+
+  part-count : request-count part ≡ k
+  unfolding part
+  part-count = cut-count log k a h
+
+  part-best : Optimal (prices-in part) (server-count part) (requests-in part) k
+  part-best =
+      optimal (prices-in part) (server-count part) (requests-in part) k
+      (rw part-count at (log-rising part part-accepted))
+      (rw part-count at (log-within part part-accepted))
+
+  part-rows : rows-of-plan part ≡ flat (plan-rows (prices-in part) (requests-in part) (server-count part) k)
+  unfolding rows-of-plan planned-rows
+  part-rows = rw part-count
+
+  checks : check-answer part (rows-of-plan part) ≡ answer.Cost (plan-cost (prices-in part) (requests-in part) k)
+  unfolding check-answer check-verdict-of check-conditions verdict-of Accepted checked
+  checks =
+      let rows = plan-rows (prices-in part) (requests-in part) (server-count part) k in
+      let v : first (log-conditions part ++ schedule-conditions (server-count part) (requests-in part) (request-count part) (flat rows)) ≡ Passed =
+      first-append (log-conditions part) _
+      ∙ rw (part-accepted, part-count) (flat-accepted (server-count part) (requests-in part) k rows (part-best .formed) (part-best .feasible)) in
+      rw (part-rows, v) (ap answer.Cost (flat-cost (prices-in part) rows ∙ part-best .costs))
+
+  answered : (marks rows : ℕ) → k ≤ marks → length (rows-of-plan part) ≤ rows → plan-verdict part marks rows ≡ Passed
+  unfolding plan-verdict verdict-of Accepted first
+  answered marks rows u w =
+      first-append (log-conditions part) _
+      ∙ rw (part-accepted, part-count, le-ltb marks k u, le-ltb rows (length (rows-of-plan part)) w)
+
+  least-is : getD (least-costs log) k 0 ≡ plan-cost (prices-in part) (requests-in part) k
+  unfolding least-costs part
+  least-is =
+      build-at (suc (request-count log)) _ k 0 (omega arith)
+      ∙ plan-best (prices-in log) (requests-in log) k
+      ∙ sym (best-alike (requests-in part) (requests-in log) k (cut-alike log k a h) (prices-in log) k k (omega arith))
+      ∙ sym (plan-best (prices-in log) (requests-in part) k)
+      ∙ rw (cut-prices log k a h)
+
+-- THE PLANNER'S HALF
+pub planned-best : (log : List ℕ) (k : ℕ) → Accepted log → k ≤ request-count log → Planned-best log k
+unfolding part
+planned-best log k a h =
+    record {
+      accepted = part-accepted log k a h;
+      says = cut-decodes log k a h;
+      answered = answered log k a h;
+      checks = checks log k a h;
+      best = part-best log k a h;
+      least-is = least-is log k a h;
+    }
+
+-- THE ONLINE HALF: for every start that is not refused and every list of scan and close calls, refused ones included
+pub online-within-three : (class′ count home : ℕ) → start-verdict class′ count home ≡ Passed → (calls : List Call) → Claim class′ count home calls
+online-within-three = claim

@@ -1,0 +1,6 @@
+-- What the project guarantees, on one page, and the worked weeks as one table.
+pub mod Week
+pub mod Weeks
+pub mod Optimality
+pub mod Calls
+pub mod Demand3

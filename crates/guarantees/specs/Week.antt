@@ -1,0 +1,120 @@
+-- A worked week of 01: what is handed in, what 01 says of it, and the test that the definitions say the same. Assumes nothing.
+use mathlib.Core.Bool.{Bool, true, false}
+use mathlib.Core.List.{List, [], _∷_, _++_}
+use Prim.Native.Nat.{ℕ, zero, suc}
+use lib.Dec.{eqb}
+use lib.ListN.{length, replicate, take}
+use Rattle.base.specs.Choice.{pick, both}
+use Rattle.base.specs.Lists.{build}
+use Rattle.base.specs.declared.Refusal.{Refusal}
+use Rattle.base.specs.declared.Verdict.{Verdict}
+use Rattle.base.specs.declared.Verdict.the-variants.{Passed, Refused}
+use Rattle.prices.specs.Prices.{prices-of}
+use Rattle.log.specs.declared.Header.{Header}
+use Rattle.log.specs.Conditions.{verdict-of}
+use Rattle.log.specs.Contents.{contents, encode}
+use Rattle.model.specs.Requests.{Requests, requests}
+use Rattle.model.specs.RowForm.{flat, rows-of}
+use Rattle.model.specs.Marking.{Mark, K, S}
+use Rattle.model.specs.Plan.{plan, plan-cost, plan-rows}
+use Rattle.model.specs.Checking.{check-verdict, check-cost}
+use Rattle.online.specs.declared.Cache.{Cache}
+use Rattle.online.specs.declared.ScanOutcome.{ScanOutcome}
+use Rattle.online.specs.declared.ScanOutcome.the-variants as scan
+use Rattle.online.specs.Rules.{running}
+use Rattle.online.specs.Answers.{started, scanned}
+
+-- the requests of a week: class, server count, home, seconds and servers
+pub record Given : Type 0 where
+  pub «class» : ℕ
+  pub count : ℕ
+  pub home : ℕ
+  pub seconds : List ℕ
+  pub servers : List ℕ
+
+-- a planned week: least and running cost after each request, the plan's and the online cache's marks, the plan's rows as numbers
+-- a checked list of rows: the verdict's number and place, 0 and 0 for none, and the cost then
+-- a log: the verdict's number and place
+pub data Week : Type 0 where
+  planned : Given → (least running marks live rows : List ℕ) → Week
+  checked : Given → (rows : List ℕ) → (number place cost : ℕ) → Week
+  logged : Given → (number place : ℕ) → Week
+
+-- two lists of numbers are equal
+unfoldable pub same : List ℕ → List ℕ → Bool
+same [] [] = true
+same [] (y ∷ ys) = false
+same (x ∷ xs) [] = false
+same (x ∷ xs) (y ∷ ys) = both (eqb x y) (same xs ys)
+
+-- a verdict as number and place, 0 and 0 where nothing is refused
+unfoldable pub as-numbers : Verdict → List ℕ
+as-numbers Passed = 0 ∷ 0 ∷ []
+as-numbers (Refused r) = r .number ∷ r .place ∷ []
+
+-- the requests of a week
+unfoldable pub requests-given : Given → Requests
+requests-given g = requests (g .home) (g .seconds) (g .servers)
+
+-- the letters of marks: K is 75, S is 83; 0 for a refusal
+unfoldable pub letter : Mark → ℕ
+letter K = 75
+letter S = 83
+
+unfoldable pub live-letter : ScanOutcome → ℕ
+live-letter scan.Kept = 75
+live-letter (scan.Sent x) = 83
+live-letter (scan.Refused r) = 0
+
+-- the least cost of the first 1, 2, .. requests
+unfoldable pub least-so-far : Given → List ℕ
+least-so-far g = build (length (g .seconds)) (λ k. plan-cost (prices-of (g .«class»)) (requests-given g) (suc k))
+
+-- the marks of the plan over the whole week
+unfoldable pub plan-letters : Given → List ℕ
+plan-letters g =
+    let m = plan (prices-of (g .«class»)) (requests-given g) (length (g .seconds)) in
+    build (length (g .seconds)) (λ k. letter (m (suc k)))
+
+-- the numbers of the plan's rows
+unfoldable pub plan-numbers : Given → List ℕ
+plan-numbers g = flat (plan-rows (prices-of (g .«class»)) (requests-given g) (g .count) (length (g .seconds)))
+
+-- the running cost, and the mark, of each request served from a state
+unfoldable pub costs-from : Cache → List ℕ → List ℕ → List ℕ
+costs-from c (t ∷ ts) (x ∷ xs) = let a = scanned c t x in running (a .cache) ∷ costs-from (a .cache) ts xs
+costs-from c [] xs = []
+costs-from c (t ∷ ts) [] = []
+
+unfoldable pub letters-from : Cache → List ℕ → List ℕ → List ℕ
+letters-from c (t ∷ ts) (x ∷ xs) = let a = scanned c t x in live-letter (a .outcome) ∷ letters-from (a .cache) ts xs
+letters-from c [] xs = []
+letters-from c (t ∷ ts) [] = []
+
+-- the state of a start
+unfoldable pub opened : Given → Cache
+opened g = started (g .«class») (g .count) (g .home) .cache
+
+-- the log of a week, with an id of zeros
+unfoldable pub log-of : Given → List ℕ
+log-of g =
+    encode (contents (record { «class» = g .«class»; «server_count» = g .count; home = g .home; id = replicate 16 0 }) (g .seconds) (g .servers))
+
+-- what the definitions say of a week is what 01 says
+unfoldable pub right : Week → Bool
+right (planned g least cost marks live rows) =
+    both (same (least-so-far g) least)
+    (both (same (costs-from (opened g) (g .seconds) (g .servers)) cost)
+    (both (same (plan-letters g) marks)
+    (both (same (letters-from (opened g) (g .seconds) (g .servers)) live)
+    (same (plan-numbers g) rows))))
+right (checked g rows number place cost) =
+    let v = check-verdict (g .count) (requests-given g) (length (g .seconds)) rows in
+    both (same (as-numbers v) (number ∷ place ∷ []))
+    (eqb (check-cost (prices-of (g .«class»)) rows) cost)
+right (logged g number place) = same (as-numbers (verdict-of (log-of g))) (number ∷ place ∷ [])
+
+-- every week of a table is right
+unfoldable pub all-right : List Week → Bool
+all-right [] = true
+all-right (w ∷ ws) = both (right w) (all-right ws)

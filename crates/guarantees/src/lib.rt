@@ -1,0 +1,1 @@
+// No program code: what the project guarantees is stated in specs/.

@@ -1,0 +1,60 @@
+-- What a start, a scan and a close answer, and the state that each gives back: unchanged where refused, zeros for a start. Assumes nothing.
+use Prim.Native.Nat.{ℕ}
+use Rattle.base.specs.Choice.{pick}
+use Rattle.base.specs.Refusals.{first}
+use Rattle.base.specs.declared.Verdict.{Verdict}
+use Rattle.base.specs.declared.Verdict.the-variants.{Passed, Refused}
+use Rattle.log.specs.Conditions.{setup-conditions}
+use Rattle.online.specs.declared.Cache.{Cache}
+use Rattle.online.specs.declared.StartOutcome.the-variants as start
+use Rattle.online.specs.declared.Started.{Started}
+use Rattle.online.specs.declared.ScanOutcome.{ScanOutcome}
+use Rattle.online.specs.declared.ScanOutcome.the-variants as scan
+use Rattle.online.specs.declared.Scanned.{Scanned}
+use Rattle.online.specs.declared.CloseOutcome.the-variants as close
+use Rattle.online.specs.declared.Closed.{Closed}
+use Rattle.online.specs.Rules.{fresh, zeros, kept, accept, running, shut}
+use Rattle.online.specs.Conditions.{scan-conditions, close-conditions}
+
+-- what refuses a start: the first condition that holds
+unfoldable pub start-verdict : ℕ → ℕ → ℕ → Verdict
+start-verdict class′ count home = first (setup-conditions class′ count home)
+
+-- what refuses a scan
+unfoldable pub scan-verdict : Cache → ℕ → ℕ → Verdict
+scan-verdict c second server = first (scan-conditions c second server)
+
+-- what refuses a close
+unfoldable pub close-verdict : Cache → Verdict
+close-verdict c = first (close-conditions c)
+
+-- a start by its verdict: ready, or refused with a state of zeros
+unfoldable pub started-by : Verdict → ℕ → ℕ → ℕ → Started
+started-by Passed class′ count home = record { cache = fresh class′ count home; outcome = start.Ready }
+started-by (Refused r) class′ count home = record { cache = zeros; outcome = start.Refused r }
+
+-- a start
+unfoldable pub started : ℕ → ℕ → ℕ → Started
+started class′ count home = started-by (start-verdict class′ count home) class′ count home
+
+-- K, or S from the last server
+unfoldable pub mark-outcome : Cache → ℕ → ℕ → ScanOutcome
+mark-outcome c second server = pick (kept c second server) scan.Kept (scan.Sent (c .last))
+
+-- a scan by its verdict: its mark and the next state, or refused
+unfoldable pub scanned-by : Verdict → Cache → ℕ → ℕ → Scanned
+scanned-by Passed c second server = record { cache = accept c second server; outcome = mark-outcome c second server }
+scanned-by (Refused r) c second server = record { cache = c; outcome = scan.Refused r }
+
+-- a scan
+unfoldable pub scanned : Cache → ℕ → ℕ → Scanned
+scanned c second server = scanned-by (scan-verdict c second server) c second server
+
+-- a close by its verdict: the running cost and the state closed, or refused
+unfoldable pub closed-by : Verdict → Cache → Closed
+closed-by Passed c = record { cache = shut c; outcome = close.Cost (running c) }
+closed-by (Refused r) c = record { cache = c; outcome = close.Refused r }
+
+-- a close
+unfoldable pub closed-answer : Cache → Closed
+closed-answer c = closed-by (close-verdict c) c

@@ -1,0 +1,53 @@
+-- A list of calls, as 01's 'What demand 3 compares' has it: each call gets the state last given back. Assumes nothing.
+use mathlib.Core.List.{List, [], _∷_, map}
+use Prim.Native.Nat.{ℕ}
+use Rattle.base.specs.declared.Verdict.{Verdict}
+use Rattle.base.specs.declared.Verdict.the-variants.{Passed, Refused}
+use Rattle.model.specs.Requests.{Requests, requests}
+use Rattle.online.specs.declared.Cache.{Cache}
+use Rattle.online.specs.Answers.{scan-verdict, close-verdict, scanned, closed-answer}
+
+-- scan SECOND SERVER, or close
+pub data Call : Type 0 where
+  scan : ℕ → ℕ → Call
+  close : Call
+
+-- what refuses a call, if anything does
+unfoldable pub verdict : Cache → Call → Verdict
+verdict c (scan second server) = scan-verdict c second server
+verdict c close = close-verdict c
+
+-- the state that a call gives back
+unfoldable pub after : Cache → Call → Cache
+after c (scan second server) = scanned c second server .cache
+after c close = closed-answer c .cache
+
+-- the state after a list of calls
+unfoldable pub run : Cache → List Call → Cache
+run c [] = c
+run c (a ∷ calls) = run (after c a) calls
+
+-- what refuses each call of a list, if anything does
+unfoldable pub verdicts : Cache → List Call → List Verdict
+verdicts c [] = []
+verdicts c (a ∷ calls) = verdict c a ∷ verdicts (after c a) calls
+
+-- a request (01: scan): its second and its server
+pub record Request : Type 0 where
+  pub second : ℕ
+  pub server : ℕ
+
+-- with the request of a call before others, if the call is a scan that is not refused
+unfoldable pub taken-by : Verdict → Call → List Request → List Request
+taken-by Passed (scan second server) rs = record { second = second; server = server } ∷ rs
+taken-by Passed close rs = rs
+taken-by (Refused r) a rs = rs
+
+-- the requests taken, in order
+unfoldable pub taken : Cache → List Call → List Request
+taken c [] = []
+taken c (a ∷ calls) = taken-by (verdict c a) a (taken (after c a) calls)
+
+-- a list of requests with home before them
+unfoldable pub requests-of : ℕ → List Request → Requests
+requests-of home rs = requests home (map (λ r. r .second) rs) (map (λ r. r .server) rs)

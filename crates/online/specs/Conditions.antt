@@ -1,0 +1,64 @@
+-- The conditions of a scan and of a close, in 01's order; those of a start are log's setup-conditions (3, 4, 5). Assumes nothing.
+use mathlib.Core.Bool.{Bool, false, not}
+use mathlib.Core.List.{List, [], _∷_}
+use Prim.Native.Nat.{ℕ, _+_}
+use lib.Dec.{leb, ltb, eqb}
+use Rattle.base.specs.Choice.{both, either}
+use Rattle.base.specs.Refusals.{Condition, refuse}
+use Rattle.online.specs.declared.Cache.{Cache}
+use Rattle.online.specs.Servers.{some-server}
+use Rattle.online.specs.Rules.{window-of, copy-at, use-at}
+
+-- one of some tests holds
+unfoldable pub any-of : List Bool → Bool
+any-of [] = false
+any-of (b ∷ bs) = let r = any-of bs in either b r
+
+-- what can be wrong with server y: a bit at or above the count; a last use after the last second; in the word, not the last server, and
+-- expired before the last second; a last use other than 0 outside the word
+abbrev pub server-faults : Cache → ℕ → List Bool
+server-faults c y =
+    both (copy-at c y) (leb (c .«server_count») y)
+    ∷ ltb (c .second) (use-at c y)
+    ∷ both (both (copy-at c y) (not (eqb y (c .last)))) (ltb (use-at c y + window-of c) (c .second))
+    ∷ both (not (copy-at c y)) (not (eqb (use-at c y) 0))
+    ∷ []
+
+-- one of them is
+unfoldable pub server-broken : Cache → ℕ → Bool
+server-broken c y = any-of (server-faults c y)
+
+-- what can be wrong with a state: class, count or last second out of range; last server not below the count, or not in the word; its last
+-- use not the last second; requests above 2,048, transfers above requests, held above 256,000,000; a server at fault
+abbrev pub faults : Cache → List Bool
+faults c =
+    ltb 7 (c .«class»)
+    ∷ either (eqb (c .«server_count») 0) (ltb 64 (c .«server_count»))
+    ∷ ltb 4000000 (c .second)
+    ∷ leb (c .«server_count») (c .last)
+    ∷ not (copy-at c (c .last))
+    ∷ not (eqb (use-at c (c .last)) (c .second))
+    ∷ ltb 2048 (c .requests)
+    ∷ ltb (c .requests) (c .transfers)
+    ∷ ltb 256000000 (c .held)
+    ∷ some-server 64 (server-broken c)
+    ∷ []
+
+-- 32: one of them is
+unfoldable pub broken : Cache → Bool
+broken c = any-of (faults c)
+
+-- a scan: 11 server not below the count; 12 second 0 or above 4,000,000; 32; 33 closed; 34 already 2,048 requests; 35 not later than the last
+unfoldable pub scan-conditions : Cache → ℕ → ℕ → List Condition
+scan-conditions c second server =
+    refuse 11 0 (leb (c .«server_count») server)
+    ∷ refuse 12 0 (either (eqb second 0) (ltb 4000000 second))
+    ∷ refuse 32 0 (broken c)
+    ∷ refuse 33 0 (c .closed)
+    ∷ refuse 34 0 (leb 2048 (c .requests))
+    ∷ refuse 35 0 (leb second (c .second))
+    ∷ []
+
+-- a close: 32; 33 closed
+unfoldable pub close-conditions : Cache → List Condition
+close-conditions c = refuse 32 0 (broken c) ∷ refuse 33 0 (c .closed) ∷ []

@@ -1,0 +1,21 @@
+-- The online cache: the definitions of 01's 'The live keeper' and of a list of calls, and the second half of demand 3.
+pub mod Servers
+pub mod Rules
+pub mod Conditions
+pub mod Answers
+pub mod Calls
+pub mod History
+pub mod ServerLaws
+pub mod HistoryLaws
+pub mod Seconds
+pub mod Potential
+pub mod WithinThree
+pub mod Holding
+pub mod NotBelow
+pub mod Agreement
+pub mod Sound
+pub mod Passed
+pub mod CallLaws
+pub mod Follows
+pub mod Reached
+pub mod Claim

@@ -1,0 +1,18 @@
+// The planner: the cheapest schedule that there could have been, and the least cost of every prefix.
+
+use base::Refusal;
+
+// The plan's cost and the number of its rows, or why there is no plan.
+pub enum Planned {
+    Plan { cost: u64, rows: u32 },
+    Refused(Refusal),
+}
+
+// How many least costs were written, one for each prefix from none to all, or why none was.
+pub enum LeastCosts {
+    Costs(u32),
+    Refused(Refusal),
+}
+
+// What stands for the previous request of a request that has none.
+const NONE: u16 = 65535;
