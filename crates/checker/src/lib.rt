@@ -1,8 +1,23 @@
 // The schedule checker.
+mod answer;
+mod conditions;
+mod rows;
+mod search;
+mod standing;
+
+pub use answer::check;
 use base::Refusal;
 
 // The cost of a feasible schedule, or why it is refused.
 pub enum Checked {
     Cost(u64),
     Refused(Refusal),
+}
+
+// A row's four numbers: its kind and three more.
+pub struct Quad {
+    pub kind: u32,
+    pub a: u32,
+    pub b: u32,
+    pub c: u32,
 }

@@ -1,0 +1,103 @@
+-- The places of well-formed rows rise, so halving finds the first row at a place or later.
+use mathlib.Core.Bool.{Bool, true, false, not}
+use mathlib.Core.List.{List}
+use mathlib.Core.Logic.{_⊎_, inl, inr}
+use mathlib.Core.Path.{_≡_, refl, sym, ap, _∙_}
+use native.Mathlib.Nat.{sub-zero}
+use native.Mathlib.Omega.{arith}
+use Prim.Native.Nat.{ℕ, zero, suc, _+_, _-_, _*_, _≤_, _<_}
+use lib.Dec.{leb, ltb, eqb}
+use borrow.Author.Tests.{ltb-true, leb-true, leb-false, eqb-true, le-leb, lt-leb}
+use Rattle.base.specs.Choice.{both, either, le-or-lt, same-or-not, not-both}
+use Rattle.base.specs.LowestLaws.{Lowest}
+use Rattle.model.specs.BothLaws.{both-true, either-true}
+use Rattle.model.specs.Schedule.{Row, hold, move, Move, transfer}
+use Rattle.model.specs.RowForm.{row-at, fits, earlier, follows}
+use Rattle.model.specs.RowLaws.{fits-hold, fits-move}
+use Rattle.model.specs.Checking.{row-count}
+use Rattle.checker.specs.Search.{hold-key, second-key, key, halve, from-on, position}
+use Rattle.checker.specs.SearchLaws.{halve-lowest}
+
+-- rows that passed 15 and 16, at most 64 servers, and seconds below 2 ^ 22
+pub record Shaped (count last : ℕ) (ns : List ℕ) : Type 0 where
+  pub few : count ≤ 64
+  pub early : last < 4194304
+  pub fit-at : (i : ℕ) → i < row-count ns → fits count last (row-at ns i) ≡ true
+  pub follow-at : (i : ℕ) → suc i < row-count ns → follows (row-at ns i) (row-at ns (suc i)) ≡ true
+
+-- the place where a row ends: a hold at its last second
+unfoldable pub end-key : Row → ℕ
+end-key (hold x a b) = hold-key x b
+end-key (move v) = key (move v)
+
+module _ (count last : ℕ) (few : count ≤ 64) (early : last < 4194304) where
+  -- a row ends where it begins or later
+  key-end : (r : Row) → fits count last r ≡ true → key r ≤ end-key r
+  unfolding end-key key hold-key
+  key-end (hold x a b) e = let (p, q, s) = fits-hold count last x a b e in omega arith
+  key-end (move (transfer y x τ)) e = omega arith
+
+  -- a row that may follow another comes after its end
+  key-next : (r s : Row) → fits count last r ≡ true → fits count last s ≡ true → follows r s ≡ true → end-key r < key s
+  unfolding end-key key hold-key second-key follows earlier
+  key-next (hold x a b) (hold y c d) e f o = go (fits-hold count last x a b e) (either-true (ltb x y) (both (eqb x y) (ltb b c)) o)
+    where
+      go : (x < count) × (a < b) × (b ≤ last) → (ltb x y ≡ true) ⊎ (both (eqb x y) (ltb b c) ≡ true) → 4194304 * x + b < 4194304 * y + c
+      go (i, j, k) (inl h) = omega (arith, ltb-true x y h)
+      go (i, j, k) (inr h) = let (p, q) = both-true (eqb x y) (ltb b c) h in omega (arith, eqb-true x y p, ltb-true b c q)
+  key-next (hold x a b) (move (transfer z u σ)) e f o = let (p, q, s) = fits-hold count last x a b e in omega arith
+  key-next (move v) (hold y c d) e f o = absurd (not-both o refl)
+  key-next (move (transfer y x τ)) (move (transfer z u σ)) e f o = go (fits-move count last y x τ e) (either-true (ltb τ σ) _ o)
+    where
+      go : (y < count) × (x < count) × (τ ≤ last) → (ltb τ σ ≡ true) ⊎ (both (eqb τ σ) (either (ltb y z) (both (eqb y z) (ltb x u))) ≡ true)
+          → 268435456 + 4096 * τ + 64 * y + x < 268435456 + 4096 * σ + 64 * z + u
+      go (i, j, k) (inl h) = omega (arith, ltb-true τ σ h)
+      go (i, j, k) (inr h) =
+          let (p, q) = both-true (eqb τ σ) (either (ltb y z) (both (eqb y z) (ltb x u))) h in
+          elim (either-true (ltb y z) (both (eqb y z) (ltb x u)) q) [
+            | inl l ↦ omega (arith, eqb-true τ σ p, ltb-true y z l)
+            | inr l ↦ let (v, w) = both-true (eqb y z) (ltb x u) l in omega (arith, eqb-true τ σ p, eqb-true y z v, ltb-true x u w)
+          ]
+
+module _ (count last : ℕ) (ns : List ℕ) (s : Shaped count last ns) where
+  -- each row comes after the end of every one before it
+  pub keys-rise : (i j : ℕ) → i < j → j < row-count ns → end-key (row-at ns i) < key (row-at ns j)
+  keys-rise i zero l h = absurd (omega arith)
+  keys-rise i (suc j) l h = go (same-or-not i j) (keys-rise i j)
+    where
+      next : end-key (row-at ns j) < key (row-at ns (suc j))
+      next = key-next count last (s .few) (s .early) (row-at ns j) (row-at ns (suc j)) (s .fit-at j (omega arith)) (s .fit-at (suc j) h) (s .follow-at j h)
+
+      go : (i ≡ j) ⊎ (i ≡ j → ⊥) → (i < j → j < row-count ns → end-key (row-at ns i) < key (row-at ns j)) → end-key (row-at ns i) < key (row-at ns (suc j))
+      go (inl e) r = rw e next
+      go (inr d) r = omega (arith, next, r (omega arith) (omega arith), key-end count last (s .few) (s .early) (row-at ns j) (s .fit-at j (omega arith)))
+
+  -- so a row is at no lower place than one before it
+  pub keys-stay : (i j : ℕ) → i ≤ j → j < row-count ns → key (row-at ns i) ≤ key (row-at ns j)
+  keys-stay i j l h = go (same-or-not i j)
+    where
+      go : (i ≡ j) ⊎ (i ≡ j → ⊥) → key (row-at ns i) ≤ key (row-at ns j)
+      go (inl e) = rw e (omega arith)
+      go (inr d) = omega (arith, keys-rise i j (omega arith) h, key-end count last (s .few) (s .early) (row-at ns i) (s .fit-at i (omega arith)))
+
+  -- halving finds the first row at a place or later
+  position-lowest : (k : ℕ) → Lowest (row-count ns) (from-on ns k) (position ns k)
+  unfolding position from-on
+  position-lowest k =
+      halve-lowest (from-on ns k) (row-count ns)
+      (λ i j l h e. le-leb k (key (row-at ns j)) (omega (arith, leb-true k (key (row-at ns i)) e, keys-stay i j l h)))
+      (row-count ns) 0 (row-count ns) (omega arith) (omega arith) (omega arith) (λ j l. absurd (omega arith)) (λ l. absurd (omega arith))
+
+  pub position-within : (k : ℕ) → position ns k ≤ row-count ns
+  position-within k = position-lowest k .within
+
+  -- the rows before it are at lower places, the rows from it on are not
+  pub before-position : (k i : ℕ) → i < position ns k → key (row-at ns i) < k
+  unfolding from-on
+  before-position k i l = leb-false k (key (row-at ns i)) (position-lowest k .none i l)
+
+  pub from-position : (k i : ℕ) → position ns k ≤ i → i < row-count ns → k ≤ key (row-at ns i)
+  unfolding from-on
+  from-position k i l h =
+      let p = position ns k in
+      omega (arith, leb-true k (key (row-at ns p)) (position-lowest k .met (omega arith)), keys-stay p i l h)

@@ -1,0 +1,51 @@
+-- The conditions 14 to 18 part by part, as the code comes by them.
+use mathlib.Core.Bool.{not}
+use mathlib.Core.List.{List, [], _∷_, _++_}
+use mathlib.Core.Path.{_≡_, refl, sym, ap, _∙_}
+use Prim.Native.Nat.{ℕ, _%_}
+use lib.Dec.{eqb}
+use lib.ListN.{length}
+use Rattle.base.specs.declared.Verdict.{Verdict}
+use Rattle.base.specs.Refusals.{Condition, refuse, first, each}
+use Rattle.base.specs.RefusalLaws.{first-append, otherwise}
+use Rattle.log.specs.Fields.{server-count, home-of, request-count}
+use Rattle.model.specs.Requests.{Requests}
+use Rattle.model.specs.LogRequests.{requests-in}
+use Rattle.model.specs.Checking.{row-count}
+use Rattle.checker.specs.Quick.{row-tests, copy-tests-from, serve-test, schedule-tests}
+
+-- 14
+abbrev pub whole-test : List ℕ → List Condition
+whole-test ns = refuse 14 0 (not (eqb (length ns % 4) 0)) ∷ []
+
+-- 15 and 16 of each row, 17 of each row, 18 of each request
+abbrev pub row-part : List ℕ → List ℕ → List Condition
+row-part log ns = each (row-tests (server-count log) (request-count log) (requests-in log .time (request-count log)) ns) (row-count ns)
+
+abbrev pub copy-part : List ℕ → List ℕ → List Condition
+copy-part log ns = copy-tests-from (server-count log) (home-of log) ns 0
+
+abbrev pub serve-part : List ℕ → List ℕ → List Condition
+serve-part log ns = each (serve-test log ns) (request-count log)
+
+-- four lists of conditions, one after the other
+pub four-parts : (a b c d : List Condition)
+    → first (a ++ (b ++ (c ++ d))) ≡ otherwise (first a) (otherwise (first b) (otherwise (first c) (first d)))
+four-parts a b c d =
+    first-append a (b ++ (c ++ d))
+    ∙ ap (otherwise (first a)) (first-append b (c ++ d) ∙ ap (otherwise (first b)) (first-append c d))
+
+pub schedule-parts : (log ns : List ℕ)
+    → first (schedule-tests log ns)
+    ≡ otherwise (first (whole-test ns)) (otherwise (first (row-part log ns)) (otherwise (first (copy-part log ns)) (first (serve-part log ns))))
+unfolding schedule-tests
+schedule-parts log ns = four-parts (whole-test ns) (row-part log ns) (copy-part log ns) (serve-part log ns)
+
+-- two parts, from the numbers that were read
+pub row-part-read : (log ns : List ℕ) (count n last : ℕ) (v : Verdict) → count ≡ server-count log → n ≡ request-count log
+    → last ≡ requests-in log .time (request-count log) → v ≡ first (each (row-tests count n last ns) (row-count ns)) → first (row-part log ns) ≡ v
+row-part-read log ns count n last v p q r e = rw (← r, ← p, ← q) (sym e)
+
+pub copy-part-read : (log ns : List ℕ) (count home : ℕ) (v : Verdict) → count ≡ server-count log → home ≡ home-of log
+    → v ≡ first (copy-tests-from count home ns 0) → first (copy-part log ns) ≡ v
+copy-part-read log ns count home v p q e = rw (← p, ← q) (sym e)

@@ -1,0 +1,208 @@
+// The conditions 14 to 18 on the numbers of a schedule, in 01's order.
+ghost use mathlib.Core.Path.{_≡_};
+ghost use mathlib.Core.Bool.{not};
+ghost use Prim.Native.Nat.{suc, _+_, _*_, _/_, _<_, _≤_};
+ghost use lib.Dec.{ltb, eqb};
+ghost use lib.ListN.{length};
+ghost use Rattle.base.specs.Choice.{either};
+ghost use Rattle.base.specs.Bytes.{le16, le32};
+ghost use Rattle.base.specs.Refusals.{first, each};
+ghost use Rattle.base.specs.Sets.{has};
+ghost use Rattle.log.specs.Fields.{server-count, home-of, request-count};
+ghost use Rattle.model.specs.RowForm.{fits};
+ghost use Rattle.model.specs.LogRequests.{requests-in};
+ghost use Rattle.model.specs.Checking.{row-count, misplaced};
+ghost use Rattle.checker.specs.Reading.{as-row};
+ghost use Rattle.checker.specs.Quick.{standing-at, row-tests, copy-tests-from, serve-test, schedule-tests};
+use crate::Quad;
+use crate::rows::fits;
+use crate::rows::follows;
+use crate::rows::row;
+use crate::rows::second;
+use crate::standing::member;
+use crate::standing::standing;
+use base::Refusal;
+use base::Verdict;
+use base::bytes::at;
+use base::bytes::at16;
+use base::bytes::at32;
+use base::refusals::or_else;
+
+// The set at a second.
+struct Seen {
+    second: u32,
+    word: u64,
+}
+
+fn size(x: u16) -> usize
+    ensures { λ r. ⌜ (r ≡ x) × (r < 65536) ⌝ }
+{
+    x as usize
+}
+
+fn word8(x: u8) -> u32
+    ensures { λ r. ⌜ r ≡ x ⌝ }
+{
+    x as u32
+}
+
+fn word16(x: u16) -> u32
+    ensures { λ r. ⌜ r ≡ x ⌝ }
+{
+    x as u32
+}
+
+// Rows and requests are counted from 1.
+fn place(i: usize) -> u64
+    requires { ⌜ i < 4611686018427387904 ⌝ }
+    ensures { λ r. ⌜ r ≡ suc i ⌝ }
+{
+    i as u64 + 1
+}
+
+// 15: a kind above 1, no request, or a row that does not fit.
+fn misfits(count: u32, n: u16, last: u32, r: Quad) -> bool
+    ensures { λ s. ⌜ s ≡ either (ltb 1 (r .kind)) (either (eqb n 0) (not (fits count last (as-row r)))) ⌝ }
+{
+    if 1 < r.kind {
+        return true;
+    }
+    if n == 0 {
+        return true;
+    }
+    !fits(count, last, r)
+}
+
+// 16: row i may not follow the row before it.
+fn misplaced(ns: &[u32], i: usize) -> bool
+    ensures { λ r. ⌜ r ≡ misplaced (now (ns .entry)) i ⌝ }
+{
+    if i == 0 {
+        return false;
+    }
+    !follows(row(ns, i - 1), row(ns, i))
+}
+
+// 15 and 16 for row i.
+fn row_fault(ns: &[u32], count: u32, n: u16, last: u32, i: usize) -> Verdict
+    requires { ⌜ i < row-count (now ns) ⌝ }
+    ensures { λ r. ⌜ r ≡ first (row-tests count n last (now (ns .entry)) i) ⌝ }
+{
+    let p = place(i);
+    let v = or_else(Verdict::Passed, misfits(count, n, last, row(ns, i)), 15, p);
+    or_else(v, misplaced(ns, i), 16, p)
+}
+
+// 15 and 16 for each row.
+fn rows_fault(ns: &[u32], count: u32, n: u16, last: u32) -> Verdict
+    ensures { λ r. ⌜ r ≡ first (each (row-tests count n last (now (ns .entry))) (row-count (now (ns .entry)))) ⌝ }
+{
+    let rows = ns.len() / 4;
+    let mut i: usize = 0;
+    while i < rows {
+        let v = row_fault(ns, count, n, last, i);
+        if let Verdict::Refused(r) = v {
+            return Verdict::Refused(r);
+        }
+        i += 1;
+    }
+    Verdict::Passed
+}
+
+// The set at second t, where it may be known.
+fn seen_at(ns: &[u32], count: u32, home: u32, seen: Seen, t: u32) -> Seen
+    requires { ⌜ seen .word ≡ standing-at count home (now ns) (seen .second) ⌝ }
+    ensures { λ r. ⌜ (r .second ≡ t) × (r .word ≡ standing-at count home (now (ns .entry)) t) ⌝ }
+{
+    if seen.second == t {
+        return seen;
+    }
+    Seen {
+        second: t,
+        word: standing(ns, count, home, t),
+    }
+}
+
+// 17 for each row from one on.
+fn copies_from(ns: &[u32], count: u32, home: u32, from: usize) -> Verdict
+    ensures { λ r. ⌜ r ≡ first (copy-tests-from count home (now (ns .entry)) from) ⌝ }
+{
+    let rows = ns.len() / 4;
+    let mut seen = Seen {
+        second: 0,
+        word: standing(ns, count, home, 0),
+    };
+    let mut i = from;
+    while i < rows {
+        let r = row(ns, i);
+        seen = seen_at(ns, count, home, seen, second(r));
+        if !member(seen.word, r.a) {
+            return Verdict::Refused(Refusal {
+                number: 17,
+                place: place(i),
+            });
+        }
+        i += 1;
+    }
+    Verdict::Passed
+}
+
+// Does a copy stand at request i + 1?
+fn served(log: &[u8], ns: &[u32], i: u16) -> bool
+    ensures { λ r. ⌜ r ≡ has (standing-at (server-count (now (log .entry))) (home-of (now (log .entry))) (now (ns .entry)) (le32 (now (log .entry)) (40 + 6 * i))) (le16 (now (log .entry)) (44 + 6 * i)) ⌝ }
+{
+    let k = 6 * size(i);
+    let w = standing(ns, word8(at(log, 3)), word8(at(log, 4)), at32(log, 40 + k));
+    member(w, word16(at16(log, 44 + k)))
+}
+
+// 18 for each request.
+fn requests_fault(log: &[u8], ns: &[u32]) -> Verdict
+    ensures { λ r. ⌜ r ≡ first (each (serve-test (now (log .entry)) (now (ns .entry))) (request-count (now (log .entry)))) ⌝ }
+{
+    let n = at16(log, 6);
+    let mut i: u16 = 0;
+    while i < n {
+        if !served(log, ns, i) {
+            return Verdict::Refused(Refusal {
+                number: 18,
+                place: place(size(i)),
+            });
+        }
+        i += 1;
+    }
+    Verdict::Passed
+}
+
+// The second of the last request, 0 where there is none.
+fn last_second(log: &[u8]) -> u32
+    ensures { λ r. ⌜ r ≡ requests-in (now (log .entry)) .time (request-count (now (log .entry))) ⌝ }
+{
+    let n = at16(log, 6);
+    if n == 0 {
+        return 0;
+    }
+    at32(log, 34 + 6 * size(n))
+}
+
+// What the numbers of a schedule are answered, for a log.
+pub fn schedule_fault(log: &[u8], ns: &[u32]) -> Verdict
+    ensures { λ r. ⌜ r ≡ first (schedule-tests (now (log .entry)) (now (ns .entry))) ⌝ }
+{
+    if ns.len() % 4 != 0 {
+        return Verdict::Refused(Refusal {
+            number: 14,
+            place: 0,
+        });
+    }
+    let count = word8(at(log, 3));
+    let v = rows_fault(ns, count, at16(log, 6), last_second(log));
+    if let Verdict::Refused(r) = v {
+        return Verdict::Refused(r);
+    }
+    let v = copies_from(ns, count, word8(at(log, 4)), 0);
+    if let Verdict::Refused(r) = v {
+        return Verdict::Refused(r);
+    }
+    requests_fault(log, ns)
+}

@@ -1,0 +1,135 @@
+// Rows by their four numbers: 0 server from to, or 1 source target second.
+ghost use mathlib.Core.Path.{_≡_};
+ghost use lib.ListN.{getD};
+ghost use Rattle.model.specs.Schedule.{hold, move, transfer};
+ghost use Rattle.model.specs.RowForm.{fits, follows, earlier};
+ghost use Rattle.checker.specs.Reading.{quad-at, as-row, second-of};
+use crate::Quad;
+
+// The number at i, or 0 past the end.
+fn number(ns: &[u32], i: usize) -> u32
+    ensures { λ r. ⌜ r ≡ getD (now (ns .entry)) i 0 ⌝ }
+{
+    if i < ns.len() {
+        return ns[i];
+    }
+    0
+}
+
+// Row i, from 0; zeros past the end.
+pub fn row(ns: &[u32], i: usize) -> Quad
+    ensures { λ r. ⌜ r ≡ quad-at (now (ns .entry)) i ⌝ }
+{
+    if ns.len() / 4 < i {
+        return Quad {
+            kind: 0,
+            a: 0,
+            b: 0,
+            c: 0,
+        };
+    }
+    let k = 4 * i;
+    Quad {
+        kind: number(ns, k),
+        a: number(ns, k + 1),
+        b: number(ns, k + 2),
+        c: number(ns, k + 3),
+    }
+}
+
+// The second where a hold begins or a transfer leaves.
+pub fn second(r: Quad) -> u32
+    ensures { λ s. ⌜ s ≡ second-of (as-row r) ⌝ }
+{
+    if r.kind == 0 {
+        return r.b;
+    }
+    r.c
+}
+
+// A hold that fits: a server below the count, an end after the start and not past the last second.
+fn hold_fits(count: u32, last: u32, r: Quad) -> bool
+    ensures { λ s. ⌜ s ≡ fits count last (hold (r .a) (r .b) (r .c)) ⌝ }
+{
+    if count <= r.a {
+        return false;
+    }
+    if r.c <= r.b {
+        return false;
+    }
+    r.c <= last
+}
+
+// A transfer that fits: two servers below the count, not past the last second.
+fn transfer_fits(count: u32, last: u32, r: Quad) -> bool
+    ensures { λ s. ⌜ s ≡ fits count last (move (transfer (r .a) (r .b) (r .c))) ⌝ }
+{
+    if count <= r.a {
+        return false;
+    }
+    if count <= r.b {
+        return false;
+    }
+    if r.a == r.b {
+        return false;
+    }
+    r.c <= last
+}
+
+// A row that fits.
+pub fn fits(count: u32, last: u32, r: Quad) -> bool
+    ensures { λ s. ⌜ s ≡ fits count last (as-row r) ⌝ }
+{
+    if r.kind == 0 {
+        return hold_fits(count, last, r);
+    }
+    transfer_fits(count, last, r)
+}
+
+// A hold may follow a hold: at a later server, or from later than the former's end.
+fn hold_follows(r: Quad, s: Quad) -> bool
+    ensures { λ t. ⌜ t ≡ follows (hold (r .a) (r .b) (r .c)) (hold (s .a) (s .b) (s .c)) ⌝ }
+{
+    if r.a < s.a {
+        return true;
+    }
+    if r.a != s.a {
+        return false;
+    }
+    r.c < s.b
+}
+
+// A transfer comes before another: by second, then source, then target.
+fn earlier(r: Quad, s: Quad) -> bool
+    ensures { λ t. ⌜ t ≡ earlier (transfer (r .a) (r .b) (r .c)) (transfer (s .a) (s .b) (s .c)) ⌝ }
+{
+    if r.c < s.c {
+        return true;
+    }
+    if r.c != s.c {
+        return false;
+    }
+    if r.a < s.a {
+        return true;
+    }
+    if r.a != s.a {
+        return false;
+    }
+    r.b < s.b
+}
+
+// A row may follow another.
+pub fn follows(r: Quad, s: Quad) -> bool
+    ensures { λ t. ⌜ t ≡ follows (as-row r) (as-row s) ⌝ }
+{
+    if s.kind == 0 {
+        if r.kind == 0 {
+            return hold_follows(r, s);
+        }
+        return false;
+    }
+    if r.kind == 0 {
+        return true;
+    }
+    earlier(r, s)
+}

@@ -1,0 +1,146 @@
+// The servers where a copy stands at a second, as a set in a word.
+ghost use mathlib.Core.Path.{_≡_};
+ghost use Prim.Native.Nat.{suc, _+_, _-_};
+ghost use Rattle.base.specs.Sets.{has};
+ghost use Rattle.checker.specs.Reading.{as-row};
+ghost use Rattle.checker.specs.Quick.{join, covers, reaches, with-hold, gather, begun, before-transfers, arrival, along, settle, second-pass, standing-at};
+use crate::Quad;
+use crate::rows::row;
+use crate::search::after_holds;
+use crate::search::after_second;
+use crate::search::from_second;
+
+// Is server x in the set?
+pub fn member(w: u64, x: u32) -> bool
+    ensures { λ r. ⌜ r ≡ has w x ⌝ }
+{
+    if 64 <= x {
+        return false;
+    }
+    base::sets::has(w, x as u16)
+}
+
+// The set with server x, for which a word has room below 64.
+fn join(w: u64, x: u32) -> u64
+    ensures { λ r. ⌜ r ≡ join w x ⌝ }
+{
+    if 64 <= x {
+        return w;
+    }
+    base::sets::put(w, x as u16)
+}
+
+// Is the row a hold of server x that began before second t and reaches it?
+fn covers(t: u32, x: u32, r: Quad) -> bool
+    ensures { λ s. ⌜ s ≡ covers t x (as-row r) ⌝ }
+{
+    if r.kind != 0 {
+        return false;
+    }
+    if r.a != x {
+        return false;
+    }
+    if t <= r.b {
+        return false;
+    }
+    t <= r.c
+}
+
+// Does the last hold of server x that began before second t reach it?
+fn reaches(ns: &[u32], t: u32, x: u32) -> bool
+    ensures { λ r. ⌜ r ≡ reaches (now (ns .entry)) t x ⌝ }
+{
+    let p = after_holds(ns, x, t);
+    if p == 0 {
+        return false;
+    }
+    covers(t, x, row(ns, p - 1))
+}
+
+// The set with server x, where a hold keeps the copy there up to second t.
+fn with_hold(ns: &[u32], t: u32, w: u64, x: u32) -> u64
+    ensures { λ r. ⌜ r ≡ with-hold (now (ns .entry)) t w x ⌝ }
+{
+    if reaches(ns, t, x) {
+        return join(w, x);
+    }
+    w
+}
+
+// At second 0 the copy is at home.
+fn start(home: u32, t: u32) -> u64
+    ensures { λ r. ⌜ r ≡ begun home t ⌝ }
+{
+    if t == 0 {
+        return join(0, home);
+    }
+    0
+}
+
+// The set at second t before its transfers.
+fn before_transfers(ns: &[u32], count: u32, home: u32, t: u32) -> u64
+    ensures { λ r. ⌜ r ≡ before-transfers count home (now (ns .entry)) t ⌝ }
+{
+    let mut w = start(home, t);
+    let mut x: u32 = 0;
+    while x < count {
+        w = with_hold(ns, t, w, x);
+        x += 1;
+    }
+    w
+}
+
+// The set with the row's target, where the row is a transfer of second t whose source is in the set.
+fn arrival(t: u32, w: u64, r: Quad) -> u64
+    ensures { λ v. ⌜ v ≡ arrival t w (as-row r) ⌝ }
+{
+    if r.kind == 0 {
+        return w;
+    }
+    if r.c != t {
+        return w;
+    }
+    if member(w, r.a) {
+        return join(w, r.b);
+    }
+    w
+}
+
+// The rows from one on up to another, once.
+fn along(ns: &[u32], t: u32, from: usize, to: usize, start: u64) -> u64
+    ensures { λ r. ⌜ r ≡ along (now (ns .entry)) t from start (to - from) ⌝ }
+{
+    let mut w = start;
+    let mut i = from;
+    while i < to {
+        w = arrival(t, w, row(ns, i));
+        i += 1;
+    }
+    w
+}
+
+// The transfers of second t, until they add nothing, but at most `count` times.
+fn settle(ns: &[u32], t: u32, count: u32, start: u64) -> u64
+    ensures { λ r. ⌜ r ≡ settle count (second-pass (now (ns .entry)) t) start ⌝ }
+{
+    let from = from_second(ns, t);
+    let to = after_second(ns, t);
+    let mut w = start;
+    let mut left = count;
+    while 0 < left {
+        let v = along(ns, t, from, to, w);
+        if v == w {
+            return w;
+        }
+        w = v;
+        left -= 1;
+    }
+    w
+}
+
+// The servers where a copy stands at second t.
+pub fn standing(ns: &[u32], count: u32, home: u32, t: u32) -> u64
+    ensures { λ r. ⌜ r ≡ standing-at count home (now (ns .entry)) t ⌝ }
+{
+    settle(ns, t, count, before_transfers(ns, count, home, t))
+}
