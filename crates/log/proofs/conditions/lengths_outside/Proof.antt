@@ -7,11 +7,11 @@ use Rattle.log.proofs.conditions.lengths_outside.Lts as lts
 
 -- src/conditions.rt:182:9
 returns : tie.Need-returns
-returns c = rw (lt-ltb _ _ (c .if1 .taken))
+returns c = rw (lt-ltb 2048 _ (c .if1 .taken))
 
 -- src/conditions.rt:178:1
 returns-2 : tie.Need-returns-2
-returns-2 c = rw (le-ltb _ _ (c .if1 .left))
+returns-2 c = rw (le-ltb 2048 _ (c .if1 .left))
 
 pub lengths-outside-spec : {M : Type 1} → statement M
 lengths-outside-spec = tie.close (tie.spec returns returns-2)
