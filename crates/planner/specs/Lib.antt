@@ -1,2 +1,30 @@
--- Answers.
+-- The planner: what its calls answer, and the laws by which the code comes by it.
 pub mod Answers
+pub mod Asked
+pub mod Terms
+pub mod Fits
+pub mod TermLaws
+pub mod ReadyLaws
+pub mod FillLaws
+pub mod Walked
+pub mod TurnLaws
+pub mod WalkLaws
+pub mod Loading
+pub mod LinkLaws
+pub mod LoadLaws
+pub mod LoadedLaws
+pub mod SetupLaws
+pub mod LeastAnswer
+pub mod LeastAnswerLaws
+pub mod GapWordLaws
+pub mod HolderWords
+pub mod HolderWordLaws
+pub mod WordRows
+pub mod WordRowLaws
+pub mod RowWriting
+pub mod RowSteps
+pub mod RowCount
+pub mod RowCountLaws
+pub mod PlanAnswer
+pub mod PlanAnswerLaws
+pub mod PlanRight

@@ -1,0 +1,47 @@
+-- `planner::rows::put_all` meets its contract: the holds, then the transfers from the row after them. Assumes nothing.
+use borrow.Author.Needs.{needs}
+use mathlib.Core.List.{List}
+use Prim.Native.Nat.{ℕ}
+use Rattle.planner.specs.HolderWords.{marking}
+use Rattle.planner.specs.RowSteps.{put-both}
+use Rattle.planner.proofs.rows.put_all.Statement.{statement}
+use Rattle.planner.proofs.rows.put_all.Tie as tie
+
+size-requires : tie.Need-size-requires
+size-requires c κs = search needs
+
+half-requires : tie.Need-half-requires
+half-requires c κs = search needs
+
+put-holds-requires : tie.Need-put-holds-requires
+put-holds-requires c κs = search needs
+
+put-transfers-requires : tie.Need-put-transfers-requires
+put-transfers-requires c κs = search needs
+
+same-length : tie.Need-same-length
+same-length c = search needs
+
+returns : tie.Need-returns
+returns c =
+    let p = c .before .before in
+    let h = p .before .before .before .before in
+    let a = h .before .before .before .before .before .before .before .before .before .args in
+    let n = h .before .before .before .size .ensures .0 in
+    let k = h .before .before .half .ensures .0 in
+    let after : List ℕ = h .put-holds .last .1 .1 .1 .1 .0 in
+    put-both (a .times .now) (a .servers .now) (a .words .now) (marking (a .letters .now)) (a .n) (a .count) (h .put-holds .result) (a .out .now) after (p .put-transfers .last .1 .1 .1 .1 .1 .1 .0)
+    (rw (n, k) at (h .put-holds .ensures .0))
+    (rw (n, k) at (h .put-holds .ensures .2))
+    (rw n at (p .put-transfers .ensures))
+
+pub put-all-spec : {M : Type 1} → statement M
+put-all-spec =
+    tie.close
+    (tie.spec
+    size-requires
+    half-requires
+    put-holds-requires
+    put-transfers-requires
+    same-length
+    returns)

@@ -1,0 +1,100 @@
+-- `planner::rows::put_transfer` meets its contract: no row, or the transfer's. Assumes nothing.
+use borrow.Author.Needs.{needs}
+use mathlib.Core.Bool.{true, false}
+use mathlib.Core.List.{List, [], _∷_}
+use mathlib.Core.Path.{_≡_, refl, sym, ap, _∙_}
+use Prim.Native.Nat.{ℕ, suc, _+_, _*_, _-_}
+use native.Mathlib.Omega.{arith}
+use native.Mathlib.Numerals.{add-one}
+use Rattle.model.specs.Schedule.{move, transfer}
+use Rattle.model.specs.RowForm.{numbers}
+use Rattle.planner.specs.HolderWords.{marking}
+use Rattle.planner.specs.RowWriting.{put-empty, put-single}
+use Rattle.planner.specs.Asked.{asks}
+use Rattle.planner.specs.WordRows.{word-source, new-transfer}
+use Rattle.planner.specs.RowSteps.{transfer-none, transfer-one}
+use Rattle.planner.proofs.rows.put_transfer.Statement.{statement}
+use Rattle.planner.proofs.rows.put_transfer.Tie as tie
+
+-- src/rows.rt:126:8
+kept-requires : tie.Need-kept-requires
+kept-requires c κs = search needs
+
+-- src/rows.rt:127:9
+returns : tie.Need-returns
+returns c =
+    let a = c .before .before .before .before .before .before .before .args in
+    let q = asks (a .times .now) (a .servers .now) in
+    let m = marking (a .letters .now) in
+    let h = put-empty (a .at) (new-transfer q m (word-source (a .words .now)) (a .k)) (a .out .now)
+    (transfer-none q m (word-source (a .words .now)) (a .k) (sym (c .before .kept .ensures) ∙ c .if1 .taken)) in
+    (h .0, search needs, h .1)
+
+-- src/rows.rt:129:13
+add-i : tie.Need-add-i
+add-i c = search needs
+
+-- src/rows.rt:130:32
+word-requires : tie.Need-word-requires
+word-requires c κs = search needs
+
+-- src/rows.rt:130:25
+source-requires : tie.Need-source-requires
+source-requires c κs = search needs
+
+-- src/rows.rt:130:56
+server-requires : tie.Need-server-requires
+server-requires c κs = search needs
+
+-- src/rows.rt:130:49
+number-requires : tie.Need-number-requires
+number-requires c κs = search needs
+
+-- src/rows.rt:130:77
+second-requires : tie.Need-second-requires
+second-requires c κs = search needs
+
+-- src/rows.rt:130:5
+put-row-requires : tie.Need-put-row-requires
+put-row-requires c κs = search needs
+
+-- src/rows.rt:131:5
+add-result : tie.Need-add-result
+add-result c = search needs
+
+-- src/rows.rt:122:1
+same-length : tie.Need-same-length
+same-length c = search needs
+
+-- src/rows.rt:122:1
+returns-2 : tie.Need-returns-2
+unfolding numbers word-source
+returns-2 c =
+    let p = c .before .before in
+    let b = p .before .before .before .before .before .before .before in
+    let a = b .before .before .before .before .before .before .before .args in
+    let q = asks (a .times .now) (a .servers .now) in
+    let m = marking (a .letters .now) in
+    let from = word-source (a .words .now) in
+    let h = put-single (a .at) (new-transfer q m from (a .k)) (move (transfer (from (suc (a .k))) (q .server (suc (a .k))) (q .time (suc (a .k))))) (a .out .now) (p .put-row .last .0)
+    (transfer-one q m from (a .k) (sym (b .before .kept .ensures) ∙ b .if1 .left))
+    (p .put-row .ensures
+    ∙ rw (p .before .before .before .before .source .ensures, p .before .before .before .before .before .word .ensures, p .before .before .number .ensures, p .before .before .before .server .ensures, p .before .second .ensures, add-one (a .k))) in
+    (h .0, search needs, h .1)
+
+pub put-transfer-spec : {M : Type 1} → statement M
+put-transfer-spec =
+    tie.close
+    (tie.spec
+    kept-requires
+    returns
+    add-i
+    word-requires
+    source-requires
+    server-requires
+    number-requires
+    second-requires
+    put-row-requires
+    add-result
+    same-length
+    returns-2)

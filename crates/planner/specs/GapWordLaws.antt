@@ -1,0 +1,100 @@
+-- The words of the gaps, filled in from the last gap to the first.
+use mathlib.Core.Bool.{Bool, true, false}
+use mathlib.Core.List.{List}
+use mathlib.Core.Logic.{_⊎_, inl, inr, _≢_}
+use mathlib.Core.Path.{_≡_, refl, sym, _∙_}
+use native.Mathlib.Omega.{arith}
+use Prim.Native.Nat.{ℕ, suc, pred, _-_, _≤_, _<_}
+use lib.Dec.{ltb, eqb}
+use lib.ListN.{length, getD, set, replicate, length-set, length-replicate, getD-replicate}
+use lib.Seq.{getD-set-same, getD-set-other, ext-getD}
+use borrow.Author.Tests.{lt-ltb, le-ltb, le-leb, lt-leb}
+use Rattle.base.specs.Choice.{pick, le-or-lt, same-or-not}
+use Rattle.base.specs.Lists.{build, build-length, build-at, build-same}
+use Rattle.model.specs.Marking.{Mark, K, S, keeps}
+use Rattle.planner.specs.HolderWords.{kept-step, kept-word, or-server, holders-word, gap-word, marking}
+
+-- a mark by its letter
+pub keeps-letter : (letters : List ℕ) (i : ℕ) → keeps (marking letters (suc i)) ≡ eqb (getD letters i 0) 75
+unfolding keeps marking
+keeps-letter letters i = go (eqb (getD letters i 0) 75)
+  where
+    go : (b : Bool) → keeps (pick b K S) ≡ b
+    go true = refl
+    go false = refl
+
+-- a built list with one value set
+build-set : (n i v : ℕ) (f g : ℕ → ℕ) → i < n → g i ≡ v → ((k : ℕ) → k ≢ i → f k ≡ g k) → set (build n f) i v ≡ build n g
+build-set n i v f g h e same =
+    ext-getD 0 (set (build n f) i v) (build n g) (simp length-set (build-length n f ∙ sym (build-length n g))) each
+  where
+    each : (k : ℕ) → k < length (set (build n f) i v) → getD (set (build n f) i v) k 0 ≡ getD (build n g) k 0
+    each k l = go (same-or-not k i)
+      where
+        below : k < n
+        below = omega (arith, length-set (build n f) i v, build-length n f)
+
+        go : (k ≡ i) ⊎ (k ≢ i) → getD (set (build n f) i v) k 0 ≡ getD (build n g) k 0
+        go (inl z) = rw z (getD-set-same (build n f) i v 0 (omega (arith, build-length n f)) ∙ sym (build-at n g i 0 h ∙ e))
+        go (inr z) = getD-set-other (build n f) i k v 0 z ∙ build-at n f k 0 below ∙ same k z ∙ sym (build-at n g k 0 below)
+
+module _ (s : ℕ → ℕ) (m : ℕ → Mark) (n : ℕ) where
+  -- the words of the gaps above i
+  unfoldable pub words-above : ℕ → ℕ → ℕ
+  words-above i k = pick (ltb i k) (gap-word s m n k) 0
+
+  -- above gap n there is none
+  pub words-none : (size : ℕ) → replicate size 0 ≡ build size (words-above n)
+  unfolding words-above gap-word
+  words-none size =
+      ext-getD 0 (replicate size 0) (build size (words-above n)) (length-replicate size 0 ∙ sym (build-length size (words-above n))) each
+    where
+      none : (k : ℕ) → (k ≤ n) ⊎ (n < k) → words-above n k ≡ 0
+      none k (inl h) = rw (le-ltb n k h)
+      none k (inr h) = rw (lt-ltb n k h, lt-ltb 0 k (omega arith), lt-leb k n h)
+
+      each : (k : ℕ) → k < length (replicate {A = ℕ} size 0) → getD (replicate size 0) k 0 ≡ getD (build size (words-above n)) k 0
+      each k l =
+          let h : k < size = omega (arith, length-replicate {A = ℕ} size 0) in
+          getD-replicate size k 0 0 h ∙ sym (build-at size (words-above n) k 0 h ∙ none k (le-or-lt k n))
+
+  -- over the gap after the last no server is kept
+  pub kept-none : 0 ≡ kept-word s m (suc n) (n - n)
+  unfolding kept-word
+  kept-none = let e : n - n ≡ 0 = omega arith in rw e
+
+  -- one gap back: the servers kept there
+  pub kept-back : (i : ℕ) → 1 ≤ i → i ≤ n
+      → kept-step (kept-word s m (suc i) (n - i)) (s i) (keeps (m (suc (i - 1)))) ≡ kept-word s m (suc (i - 1)) (n - (i - 1))
+  unfolding kept-word
+  kept-back i a b =
+      let e : suc (i - 1) ≡ i = omega arith in
+      let d : n - (i - 1) ≡ suc (n - i) = omega arith in
+      rw (e, d)
+
+  -- and its word
+  pub words-back : (size i : ℕ) → 1 ≤ i → i ≤ n → n < size
+      → set (build size (words-above i)) i (or-server (kept-word s m (suc (i - 1)) (n - (i - 1))) (s (i - 1))) ≡ build size (words-above (i - 1))
+  unfolding words-above gap-word holders-word
+  words-back size i a b l =
+      build-set size i (or-server (kept-word s m (suc (i - 1)) (n - (i - 1))) (s (i - 1))) (words-above i) (words-above (i - 1)) (omega arith) here (λ k d. there k d (le-or-lt k (i - 1)))
+    where
+      here : words-above (i - 1) i ≡ or-server (kept-word s m (suc (i - 1)) (n - (i - 1))) (s (i - 1))
+      here =
+          let e : suc (i - 1) ≡ i = omega arith in
+          let d : n - (i - 1) ≡ suc n - i = omega arith in
+          let p : i - 1 ≡ pred i = omega arith in
+          rw (lt-ltb (i - 1) i (omega arith), lt-ltb 0 i a, le-leb i n b, e, d, p)
+
+      there : (k : ℕ) → k ≢ i → (k ≤ i - 1) ⊎ (i - 1 < k) → words-above i k ≡ words-above (i - 1) k
+      there k d (inl h) = rw (le-ltb i k (omega arith), le-ltb (i - 1) k h)
+      there k d (inr h) = rw (lt-ltb i k (omega arith), lt-ltb (i - 1) k h)
+
+  -- above gap 0 are all
+  pub words-all : (size : ℕ) → build size (words-above 0) ≡ build size (gap-word s m n)
+  unfolding words-above gap-word
+  words-all size = build-same size (words-above 0) (gap-word s m n) (λ k l. go (le-or-lt k 0))
+    where
+      go : {k : ℕ} → (k ≤ 0) ⊎ (0 < k) → words-above 0 k ≡ gap-word s m n k
+      go {k} (inl h) = rw (le-ltb 0 k h)
+      go {k} (inr h) = rw (lt-ltb 0 k h)

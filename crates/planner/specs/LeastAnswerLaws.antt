@@ -1,0 +1,83 @@
+-- The least costs that are written for a log are those that it has.
+use mathlib.Core.List.{List, [], _∷_, _++_}
+use mathlib.Core.Path.{_≡_, refl, sym, ap, ap₂, _∙_}
+use native.Mathlib.Omega.{arith}
+use Prim.Native.Nat.{ℕ, suc, _≤_, _<_}
+use lib.ListN.{length, drop}
+use lib.Seq.{ext-getD}
+use borrow.Author.Tests.{lt-ltb, le-ltb}
+use Rattle.base.specs.Lists.{build, build-length, build-at, cleared}
+use Rattle.base.specs.Lent.{lent}
+use Rattle.base.specs.LentLaws.{lent-front}
+use Rattle.base.specs.Refusals.{first, short}
+use Rattle.base.specs.RefusalLaws.{first-append, first-met, first-failed}
+use Rattle.base.specs.declared.Refusal.{Refusal}
+use Rattle.base.specs.declared.Verdict.{Verdict}
+use Rattle.base.specs.declared.Verdict.the-variants.{Passed, Refused}
+use Rattle.log.specs.Fields.{request-count}
+use Rattle.log.specs.Conditions.{log-conditions, verdict-of, Accepted}
+use Rattle.prices.specs.declared.Prices.{Prices}
+use Rattle.model.specs.Requests.{Requests}
+use Rattle.model.specs.Plan.{plan-cost}
+use Rattle.model.specs.PlanLaws.{plan-best}
+use Rattle.model.specs.TableLists.{at, lists, lists-length, lists-costs}
+use Rattle.model.specs.LogRequests.{requests-in, prices-in}
+use Rattle.planner.specs.declared.LeastCosts.{LeastCosts}
+use Rattle.planner.specs.declared.requests.Setup.{Setup}
+use Rattle.planner.specs.Answers.{least-costs, least-verdict, least-answer}
+use Rattle.planner.specs.LeastAnswer.{costs-answer}
+use Rattle.planner.specs.Loading.{setup-of}
+
+-- the table's C is the least cost of each number of requests
+pub lists-least : (p : Prices) (q : Requests) (n : ℕ) → lists p q n .costs ≡ build (suc n) (λ k. plan-cost p q k)
+lists-least p q n =
+    ext-getD 0 (lists p q n .costs) (build (suc n) (λ k. plan-cost p q k)) (lists-length p q n .0 ∙ sym (build-length (suc n) (λ k. plan-cost p q k)))
+    (λ k h.
+    let l : k < suc n = omega (arith, lists-length p q n) in
+    lists-costs p q n k (omega arith) ∙ sym (plan-best p q k) ∙ sym (build-at (suc n) (λ k. plan-cost p q k) k 0 l))
+
+-- 31 or not, by the room for the costs of n requests
+pub no-room : (n : ℕ) (o : List ℕ) → length o < suc n → first (short (suc n) (length o) ∷ []) ≡ Refused (record { number = 31; place = suc n })
+no-room n o h = first-met (short (suc n) (length o)) [] (lt-ltb (length o) (suc n) h)
+
+pub room : (n : ℕ) (o : List ℕ) → suc n ≤ length o → first (short (suc n) (length o) ∷ []) ≡ Passed
+unfolding first
+room n o h = first-failed (short (suc n) (length o)) [] (le-ltb (length o) (suc n) h)
+
+-- the costs at the front, zeroed beyond
+pub costs-lent : (p : Prices) (q : Requests) (n : ℕ) (o : List ℕ) → suc n ≤ length o
+    → cleared (suc n) (lists p q n .costs ++ drop (suc n) o) ≡ lent Passed (lists p q n .costs) o
+costs-lent p q n o h = lent-front (lists p q n .costs) o (suc n) (lists-length p q n .0) h
+
+-- the answer, and what the lent list holds at the end
+abbrev pub Least-so : List ℕ → List ℕ → LeastCosts → List ℕ → Type 0
+Least-so log costs r costs′ =
+    (r ≡ least-answer (least-verdict log (length costs)) log)
+    × (costs′ ≡ lent (least-verdict log (length costs)) (least-costs log) costs)
+
+-- a refused log
+pub least-refused : (log costs : List ℕ) (e : Refusal) (r : LeastCosts) → verdict-of log ≡ Refused e → r ≡ costs-answer (Refused e) 0 → Least-so log costs r costs
+unfolding least-answer least-verdict verdict-of lent costs-answer
+least-refused log costs e r v a =
+    let w : first (log-conditions log ++ (short (suc (request-count log)) (length costs) ∷ [])) ≡ Refused e =
+    first-append (log-conditions log) (short (suc (request-count log)) (length costs) ∷ []) ∙ rw v in
+    (rw w a, rw w)
+
+-- an answer by a verdict
+answer-least : (v : Verdict) (log : List ℕ) → costs-answer v (request-count log) ≡ least-answer v log
+unfolding costs-answer least-answer
+answer-least Passed log = refl
+answer-least (Refused e) log = refl
+
+-- an accepted one, by its requests as they were read
+pub least-accepted : (log costs : List ℕ) → Accepted log → (s : Setup) → s ≡ setup-of log → (q : Requests) → q ≡ requests-in log → (r : LeastCosts) (costs′ : List ℕ)
+    → r ≡ costs-answer (first (short (suc (s .requests)) (length costs) ∷ [])) (s .requests)
+    → costs′ ≡ lent (first (short (suc (s .requests)) (length costs) ∷ [])) (lists (s .prices) q (s .requests) .costs) costs
+    → Least-so log costs r costs′
+unfolding least-verdict Accepted verdict-of least-costs setup-of
+least-accepted log costs ok s e q f r costs′ a b =
+    let v : first (short (suc (request-count log)) (length costs) ∷ []) ≡ least-verdict log (length costs) =
+    sym (first-append (log-conditions log) (short (suc (request-count log)) (length costs) ∷ []) ∙ rw ok) in (
+      a ∙ rw (e, v) (answer-least (least-verdict log (length costs)) log),
+      b ∙ rw (e, f, v) (ap (λ (x : List ℕ). lent (least-verdict log (length costs)) x costs) (lists-least (prices-in log) (requests-in log) (request-count log))),
+    )

@@ -1,0 +1,70 @@
+-- The list of the most recent request at each server, and the list of previous requests, as they are filled.
+use mathlib.Core.Bool.{Bool, true, false}
+use mathlib.Core.List.{List, _++_}
+use mathlib.Core.Logic.{_⊎_, inl, inr, _≢_}
+use mathlib.Core.Path.{_≡_, refl, sym, ap, _∙_}
+use native.Mathlib.Omega.{arith}
+use Prim.Native.Nat.{ℕ, zero, suc, _≤_, _<_}
+use lib.Dec.{eqb}
+use lib.ListN.{getD, length, drop, set, replicate, length-set, length-replicate, getD-replicate}
+use lib.Seq.{ext-getD, getD-set-same, getD-set-other}
+use borrow.Author.Tests.{eq-eqb, ne-eqb}
+use Rattle.base.specs.Choice.{pick, same-or-not}
+use Rattle.base.specs.Lists.{build, build-length, build-at, build-same}
+use Rattle.base.specs.LentLaws.{fill-next}
+use Rattle.model.specs.Requests.{latest}
+use Rattle.model.specs.RequestLaws.{latest-hit, latest-miss}
+use Rattle.model.specs.TableLists.{at}
+use Rattle.planner.specs.Terms.{index}
+use Rattle.planner.specs.Loading.{links}
+
+-- one value, n times
+pub replicate-build : (n v : ℕ) → replicate n v ≡ build n (λ i. v)
+replicate-build n v =
+    ext-getD 0 (replicate n v) (build n (λ i. v)) (length-replicate n v ∙ sym (build-length n (λ i. v)))
+    (λ i h.
+    let l : i < n = omega (arith, length-replicate n v) in
+    getD-replicate n i v 0 l ∙ sym (build-at n (λ i. v) i 0 l))
+
+-- one value changed
+pub build-set : (n : ℕ) (f g : ℕ → ℕ) (y v : ℕ) → g y ≡ v → ((k : ℕ) → y ≢ k → g k ≡ f k) → set (build n f) y v ≡ build n g
+build-set n f g y v e d =
+    ext-getD 0 (set (build n f) y v) (build n g) (length-set (build n f) y v ∙ build-length n f ∙ sym (build-length n g))
+    (λ k h.
+    let l : k < n = omega (arith, length-set (build n f) y v, build-length n f) in
+    go k l (same-or-not y k) ∙ sym (build-at n g k 0 l))
+  where
+    go : (k : ℕ) → k < n → (y ≡ k) ⊎ (y ≢ k) → getD (set (build n f) y v) k 0 ≡ g k
+    go k l (inl z) = rw (← z) (getD-set-same (build n f) y v 0 (omega (arith, build-length n f)) ∙ sym e)
+    go k l (inr z) = getD-set-other (build n f) y k v 0 (λ w. z (sym w)) ∙ build-at n f k 0 l ∙ sym (d k z)
+
+module _ (s : ℕ → ℕ) where
+  -- the most recent of the first i requests at each of 64 servers
+  unfoldable pub recents : ℕ → List ℕ
+  recents i = build 64 (λ y. index (latest s y i))
+
+  -- none yet
+  pub recents-zero : replicate 64 65535 ≡ recents 0
+  unfolding recents latest index
+  recents-zero = replicate-build 64 65535
+
+  -- read at a server
+  pub recents-at : (i y : ℕ) → y < 64 → at (recents i) y ≡ index (latest s y i)
+  unfolding recents
+  recents-at i y h = build-at 64 (λ y. index (latest s y i)) y 0 h
+
+  -- one more request
+  pub recents-next : (i : ℕ) → set (recents i) (s i) i ≡ recents (suc i)
+  unfolding recents index
+  recents-next i =
+      build-set 64 (λ y. index (latest s y i)) (λ y. index (latest s y (suc i))) (s i) i
+      (ap index (latest-hit s (s i) i refl)) (λ k d. ap index (latest-miss s k i d))
+
+  -- the previous requests of the first i, at the front of a list
+  unfoldable pub links-front : ℕ → List ℕ → List ℕ
+  links-front i o = build i (λ k. index (latest s (s k) k)) ++ drop i o
+
+  -- one more
+  pub links-next : (i : ℕ) (o : List ℕ) → i < length o → s i < 64 → set (links-front i o) i (at (recents i) (s i)) ≡ links-front (suc i) o
+  unfolding links-front
+  links-next i o h l = rw (recents-at i (s i) l) (fill-next (λ k. index (latest s (s k) k)) i o h)

@@ -1,0 +1,162 @@
+-- The lists that are loaded from an accepted log: its requests, with room after them that changes nothing, and ready for the table.
+use mathlib.Core.List.{List, [], _∷_, _++_}
+use mathlib.Core.Logic.{_⊎_, inl, inr}
+use mathlib.Core.Path.{_≡_, refl, sym, ap, ap₂, _∙_, fun-ext}
+use native.Mathlib.Omega.{arith}
+use Prim.Native.Nat.{ℕ, zero, suc, _+_, _-_, _≤_, _<_}
+use lib.ListN.{getD, length, take, drop, set, replicate, length-replicate, getD-replicate, List·getD-append, List·getD-eq-default, take-append-drop}
+use lib.Seq.{getD-append-add}
+use Rattle.base.specs.Choice.{le-or-lt}
+use Rattle.base.specs.Lent.{lent}
+use Rattle.base.specs.Lists.{build, build-length, build-at}
+use Rattle.base.specs.declared.Verdict.{Verdict}
+use Rattle.base.specs.declared.Verdict.the-variants.{Passed, Refused}
+use Rattle.prices.specs.PriceLaws.{In-range, class-in-range}
+use Rattle.log.specs.Fields.{class-of, home-of, server-count, request-count, seconds-of, servers-of, header-of}
+use Rattle.log.specs.Conditions.{verdict-of, Accepted}
+use Rattle.log.specs.Answers.{decoded}
+use Rattle.log.specs.AcceptedLaws.{Sound, Setup, In-order, accepted-sound, seconds-length, servers-length}
+use Rattle.log.specs.declared.Decoded.{Decoded}
+use Rattle.log.specs.declared.ReadOutcome.the-variants as read
+use Rattle.base.specs.declared.Refusal.{Refusal}
+use Rattle.model.specs.Requests.{Requests, requests, latest, previous, Rising}
+use Rattle.model.specs.TableLists.{at}
+use Rattle.model.specs.LogRequests.{requests-in, prices-in}
+use Rattle.model.specs.LogRequestLaws.{log-rising}
+use Rattle.planner.specs.Asked.{asks}
+use Rattle.planner.specs.Terms.{index}
+use Rattle.planner.specs.Fits.{Fits, Ready}
+use Rattle.planner.specs.Loading.{seconds-with-home, servers-with-home, links}
+
+-- a reader's answer that has a number of requests: the log is accepted, and has as many
+pub decoded-requests : (v : Verdict) (log : List ℕ) (d : Decoded) (n : ℕ) → d ≡ decoded v log → d .outcome ≡ read.Requests n
+    → (v ≡ Passed) × (n ≡ request-count log) × (d .header ≡ header-of log)
+unfolding decoded
+decoded-requests Passed log d n e f =
+    let z : n ≡ request-count log = cc in
+    (refl, z, ap (λ (x : Decoded). x .header) e)
+decoded-requests (Refused r) log d n e f = absurd (let z : _≡_ {A = ℕ} 0 1 = cc in omega arith)
+
+-- one that refuses: so does the log's verdict
+pub decoded-refused : (v : Verdict) (log : List ℕ) (d : Decoded) (r : Refusal) → d ≡ decoded v log → d .outcome ≡ read.Refused r → v ≡ Refused r
+unfolding decoded
+decoded-refused Passed log d r e f = absurd (let z : _≡_ {A = ℕ} 0 1 = cc in omega arith)
+decoded-refused (Refused r′) log d r e f = cc
+
+-- home's element, put before a list that was lent
+home-put : (o xs : List ℕ) (h : ℕ) → 1 ≤ length o → set (take 1 o ++ lent Passed xs (drop 1 o)) 0 h ≡ lent Passed (h ∷ xs) o
+unfolding lent
+home-put [] xs h l = absurd (omega arith)
+home-put (y ∷ o) xs h l =
+    let z : length o - length xs ≡ suc (length o) - suc (length xs) = omega arith in
+    ap (λ (k : ℕ). h ∷ (xs ++ replicate k 0)) z
+
+pub home-loaded : (v : Verdict) (o xs ys : List ℕ) (h k : ℕ) → v ≡ Passed → ys ≡ take 1 o ++ lent v xs (drop 1 o) → k ≡ h → 1 ≤ length o
+    → set ys 0 k ≡ lent v (h ∷ xs) o
+home-loaded Passed o xs ys h k e f g l = ap₂ (λ (x : List ℕ) (y : ℕ). set x 0 y) f g ∙ home-put o xs h l
+home-loaded (Refused r) o xs ys h k e f g l = absurd (let z : _≡_ {A = ℕ} 0 1 = cc in omega arith)
+
+-- nothing is changed by a refusal
+pub home-kept : (v : Verdict) (r : Refusal) (o xs ys zs : List ℕ) → v ≡ Refused r → ys ≡ take 1 o ++ lent v xs (drop 1 o) → ys ≡ lent v zs o
+unfolding lent
+home-kept Passed r o xs ys zs e f = absurd (let z : _≡_ {A = ℕ} 0 1 = cc in omega arith)
+home-kept (Refused r′) r o xs ys zs e f = f ∙ take-append-drop 1 o
+
+-- zeros after a list are what is read past its end
+pub at-lent : (xs o : List ℕ) → at (lent Passed xs o) ≡ at xs
+unfolding lent
+at-lent xs o = fun-ext λ i. go i (le-or-lt (length xs) i)
+  where
+    zeros : (k j : ℕ) → at (replicate k 0) j ≡ 0
+    zeros k j = elim (le-or-lt k j) [ inl h ↦ List·getD-eq-default (replicate k 0) 0 {n = j} (omega (arith, length-replicate {A = ℕ} k 0)) | inr h ↦ getD-replicate k j 0 0 h ]
+
+    go : (i : ℕ) → (length xs ≤ i) ⊎ (i < length xs) → at (xs ++ replicate (length o - length xs) 0) i ≡ at xs i
+    go i (inl h) =
+        let (j, e) : (j : ℕ) × (i ≡ length xs + j) = (i - length xs, omega arith) in
+        rw e (getD-append-add xs (replicate (length o - length xs) 0) j 0 ∙ zeros (length o - length xs) j ∙ sym (List·getD-eq-default xs 0 {n = length xs + j} (omega arith)))
+    go i (inr h) = List·getD-append xs (replicate (length o - length xs) 0) 0 i h
+
+-- nor do they change what links are made from it
+pub links-lent : (xs o : List ℕ) (n : ℕ) → links (lent Passed xs o) n ≡ links xs n
+unfolding links
+links-lent xs o n = ap (λ (s : ℕ → ℕ). build (suc n) (λ i. index (latest s (s i) i))) (at-lent xs o)
+
+-- the requests of a log, by the two lists with home before them
+pub with-home : (log : List ℕ) → asks (seconds-with-home log) (servers-with-home log) ≡ requests-in log
+unfolding requests-in requests seconds-with-home servers-with-home
+with-home log = refl
+
+module _ (log : List ℕ) (ok : Accepted log) where
+  sound : Sound log
+  sound = accepted-sound log ok
+
+  -- every server is one of 64
+  pub servers-small : (k : ℕ) → at (servers-with-home log) k < 64
+  unfolding servers-with-home
+  servers-small zero = omega (arith, sound .setup .home-below, sound .setup .servers-most)
+  servers-small (suc k) = go (le-or-lt (request-count log) k)
+    where
+      go : (request-count log ≤ k) ⊎ (k < request-count log) → at (servers-of log) k < 64
+      go (inl h) = rw (List·getD-eq-default (servers-of log) 0 {n = k} (omega (arith, servers-length log))) (omega arith)
+      go (inr h) = omega (arith, sound .in-order k h .server-below, sound .setup .servers-most)
+
+  -- so is every one in a list that holds them, with zeros after them
+  pub lent-small : (o x : List ℕ) → x ≡ lent (verdict-of log) (servers-with-home log) o → (k : ℕ) → at x k < 64
+  unfolding Accepted
+  lent-small o x f k =
+      let g : x ≡ lent Passed (servers-with-home log) o = f ∙ ap (λ (w : Verdict). lent w (servers-with-home log) o) ok in
+      let e : at x k ≡ at (servers-with-home log) k = ap (λ (y : List ℕ). at y k) g ∙ ap (λ (s : ℕ → ℕ). s k) (at-lent (servers-with-home log) o) in
+      omega (arith, servers-small k)
+
+  -- and the links made from such a list are those of its requests
+  pub links-loaded : (o p x y : List ℕ) (n : ℕ) → x ≡ lent (verdict-of log) (servers-with-home log) o → n ≡ request-count log
+      → y ≡ lent Passed (links x n) p → y ≡ lent (verdict-of log) (links (servers-with-home log) (request-count log)) p
+  unfolding Accepted
+  links-loaded o p x y n f e g =
+      let w : x ≡ lent Passed (servers-with-home log) o = f ∙ ap (λ (w : Verdict). lent w (servers-with-home log) o) ok in
+      g
+      ∙ ap₂ (λ (l : List ℕ) (k : ℕ). lent Passed (links l k) p) w e
+      ∙ ap (λ (l : List ℕ). lent Passed l p) (links-lent (servers-with-home log) o (request-count log))
+      ∙ ap (λ (w : Verdict). lent w (links (servers-with-home log) (request-count log)) p) (sym ok)
+
+  -- the seconds are at most 4,000,000
+  seconds-most : (i : ℕ) → i ≤ request-count log → requests-in log .time i ≤ 4000000
+  unfolding requests-in requests
+  seconds-most zero h = omega arith
+  seconds-most (suc i) h = sound .in-order i h .second-most
+
+  -- all costs fit
+  pub log-fits : Fits (prices-in log) (requests-in log) (request-count log)
+  unfolding prices-in
+  log-fits =
+      let p = class-in-range (class-of log) (omega (arith, sound .setup .class-most)) in
+      record {
+        hold-most = p .hold-most;
+        transfer-most = p .transfer-most;
+        requests-most = sound .requests-most;
+        times-most = seconds-most;
+        rising = log-rising log ok;
+      }
+
+  -- the links are to the previous requests
+  links-right : (i : ℕ) → i ≤ request-count log → at (links (servers-with-home log) (request-count log)) i ≡ index (previous (requests-in log) i)
+  unfolding previous links requests-in requests servers-with-home
+  links-right i h = build-at (suc (request-count log)) (λ i. index (latest (at (servers-with-home log)) (at (servers-with-home log) i) i)) i 0 (omega arith)
+
+  module _ (o₁ o₂ o₃ : List ℕ) where
+    -- the requests that the lists hold are the log's
+    pub lent-requests : asks (lent Passed (seconds-with-home log) o₁) (lent Passed (servers-with-home log) o₂) ≡ requests-in log
+    lent-requests =
+        ap₂ (λ (t s : ℕ → ℕ). record { time = t; server = s }) (at-lent (seconds-with-home log) o₁) (at-lent (servers-with-home log) o₂) ∙ with-home log
+
+    -- and they are ready
+    pub lent-ready : Ready (prices-in log) (lent Passed (seconds-with-home log) o₁) (lent Passed (servers-with-home log) o₂)
+        (lent Passed (links (servers-with-home log) (request-count log)) o₃) (request-count log)
+    lent-ready =
+        record {
+          fits = rw lent-requests log-fits;
+          linked = λ i h.
+              ap (λ (f : ℕ → ℕ). f i) (at-lent (links (servers-with-home log) (request-count log)) o₃)
+              ∙ links-right i h
+              ∙ sym (ap (λ (q : Requests). index (previous q i)) lent-requests);
+        }

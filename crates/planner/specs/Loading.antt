@@ -1,0 +1,34 @@
+-- What is read from a log before the table is made. Assumes nothing.
+use mathlib.Core.List.{List, _∷_}
+use Prim.Native.Nat.{ℕ, suc}
+use Rattle.base.specs.Lists.{build}
+use Rattle.base.specs.declared.Verdict.{Verdict}
+use Rattle.base.specs.declared.Verdict.the-variants.{Passed, Refused}
+use Rattle.log.specs.Fields.{home-of, server-count, request-count, seconds-of, servers-of}
+use Rattle.model.specs.Requests.{latest}
+use Rattle.model.specs.TableLists.{at}
+use Rattle.model.specs.LogRequests.{prices-in}
+use Rattle.planner.specs.declared.requests.Setup.{Setup}
+use Rattle.planner.specs.declared.requests.Loaded.{Loaded}
+use Rattle.planner.specs.declared.requests.Loaded.the-variants as loaded′
+use Rattle.planner.specs.Terms.{index}
+
+-- the seconds and the servers of a log's requests, home's at index 0
+unfoldable pub seconds-with-home : List ℕ → List ℕ
+seconds-with-home log = 0 ∷ seconds-of log
+
+unfoldable pub servers-with-home : List ℕ → List ℕ
+servers-with-home log = home-of log ∷ servers-of log
+
+-- the previous request of each of requests 0 to n, by their servers
+unfoldable pub links : List ℕ → ℕ → List ℕ
+links servers n = build (suc n) (λ i. index (latest (at servers) (at servers i) i))
+
+-- what else a log says
+unfoldable pub setup-of : List ℕ → Setup
+setup-of log = record { requests = request-count log; «server_count» = server-count log; prices = prices-in log }
+
+-- that, by its verdict
+unfoldable pub loaded : Verdict → List ℕ → Loaded
+loaded Passed log = loaded′.Log (setup-of log)
+loaded (Refused r) log = loaded′.Refused r

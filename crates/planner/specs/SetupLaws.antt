@@ -1,0 +1,55 @@
+-- What a loaded log tells: its verdict, and lists that are ready for the table.
+use mathlib.Core.List.{List}
+use mathlib.Core.Path.{_≡_, refl, sym, ap, ap₂, _∙_}
+use native.Mathlib.Omega.{arith}
+use Prim.Native.Nat.{ℕ, _≤_}
+use Rattle.base.specs.Lent.{lent}
+use Rattle.base.specs.declared.Refusal.{Refusal}
+use Rattle.base.specs.declared.Verdict.{Verdict}
+use Rattle.base.specs.declared.Verdict.the-variants.{Passed, Refused}
+use Rattle.log.specs.Fields.{server-count, request-count}
+use Rattle.log.specs.Conditions.{verdict-of, Accepted}
+use Rattle.log.specs.AcceptedLaws.{accepted-sound}
+use Rattle.model.specs.Requests.{Requests, Within}
+use Rattle.model.specs.LogRequests.{requests-in, prices-in}
+use Rattle.model.specs.LogRequestLaws.{log-within}
+use Rattle.planner.specs.declared.requests.Setup.{Setup}
+use Rattle.planner.specs.declared.requests.Loaded.{Loaded}
+use Rattle.planner.specs.declared.requests.Loaded.the-variants as loaded′
+use Rattle.planner.specs.Asked.{asks}
+use Rattle.planner.specs.Fits.{Ready}
+use Rattle.planner.specs.Loading.{seconds-with-home, servers-with-home, links, setup-of, loaded}
+use Rattle.planner.specs.LoadedLaws.{lent-requests, lent-ready}
+
+-- a log that is loaded is accepted
+pub loaded-log : (v : Verdict) (log : List ℕ) (x : Loaded) (s : Setup) → x ≡ loaded v log → x ≡ loaded′.Log s → (v ≡ Passed) × (s ≡ setup-of log)
+unfolding loaded
+loaded-log Passed log x s e f = (refl, cc)
+loaded-log (Refused r) log x s e f = absurd (let z : _≡_ {A = ℕ} 0 1 = cc in omega arith)
+
+-- one that is not is refused
+pub loaded-refused : (v : Verdict) (log : List ℕ) (x : Loaded) (r : Refusal) → x ≡ loaded v log → x ≡ loaded′.Refused r → v ≡ Refused r
+unfolding loaded
+loaded-refused Passed log x r e f = absurd (let z : _≡_ {A = ℕ} 0 1 = cc in omega arith)
+loaded-refused (Refused r′) log x r e f = cc
+
+module _ (log : List ℕ) (ok : Accepted log) (o₁ o₂ x y : List ℕ)
+    (e : x ≡ lent (verdict-of log) (seconds-with-home log) o₁) (f : y ≡ lent (verdict-of log) (servers-with-home log) o₂) where
+  passed : (l o : List ℕ) → lent (verdict-of log) l o ≡ lent Passed l o
+  unfolding Accepted
+  passed l o = ap (λ (v : Verdict). lent v l o) ok
+
+  -- the loaded lists hold its requests
+  pub setup-requests : asks x y ≡ requests-in log
+  setup-requests = ap₂ asks (e ∙ passed (seconds-with-home log) o₁) (f ∙ passed (servers-with-home log) o₂) ∙ lent-requests log ok o₁ o₂ o₂
+
+  -- at servers below its server count
+  pub setup-within : Within (server-count log) (asks x y) (request-count log)
+  setup-within = rw setup-requests (log-within log ok)
+
+  -- and are ready
+  pub setup-ready : (o₃ z : List ℕ) (s : Setup) → z ≡ lent (verdict-of log) (links (servers-with-home log) (request-count log)) o₃ → s ≡ setup-of log
+      → Ready (s .prices) x y z (s .requests)
+  unfolding setup-of
+  setup-ready o₃ z s g h =
+      rw (h, e, f, g, passed (seconds-with-home log) o₁, passed (servers-with-home log) o₂, passed (links (servers-with-home log) (request-count log)) o₃) (lent-ready log ok o₁ o₂ o₃)

@@ -1,0 +1,106 @@
+// A log's requests, in the lists that the table is made from: index 0 is the copy at home at second 0.
+ghost use mathlib.Core.List.{_++_};
+ghost use mathlib.Core.Path.{_≡_};
+ghost use Prim.Native.Nat.{ℕ, _≤_, _<_};
+ghost use lib.ListN.{length, take, drop, set};
+ghost use Rattle.base.specs.declared.Verdict.the-variants.{Passed};
+ghost use Rattle.base.specs.Lent.{lent};
+ghost use Rattle.log.specs.Fields.{request-count, seconds-of, servers-of};
+ghost use Rattle.log.specs.Conditions.{verdict-of};
+ghost use Rattle.log.specs.Answers.{decoded};
+ghost use Rattle.model.specs.TableLists.{at};
+ghost use Rattle.planner.specs.Loading.{seconds-with-home, servers-with-home, links, loaded};
+use crate::NONE;
+use crate::reads::size;
+use base::Refusal;
+use base::bytes::clear16;
+use log::Decoded;
+use log::ReadOutcome;
+use log::read;
+use prices::Prices;
+use prices::of_class;
+
+// What an accepted log says beside its requests: how many they are, how many servers there are, and the prices.
+pub struct Setup {
+    pub requests: u16,
+    pub server_count: u8,
+    pub prices: Prices,
+}
+
+// That, or why the log is refused.
+pub enum Loaded {
+    Log(Setup),
+    Refused(Refusal),
+}
+
+fn half(x: u8) -> u16
+    ensures { λ r. ⌜ r ≡ x ⌝ }
+{
+    x as u16
+}
+
+// The previous request of request i, and i as the most recent at its server.
+fn link_one(servers: &[u16; 2049], i: u16, recent: &mut [u16; 64], previous: &mut [u16])
+    requires { ⌜ (i ≤ 2048) × (at (now servers) i < 64) × (length (now previous) ≡ 2049) ⌝ }
+    ensures { λ _. ⌜ now (recent .exit) ≡ set (now (recent .entry)) (at (now (servers .entry)) i) i ⌝ }
+    ensures { λ _. ⌜ now (previous .exit) ≡ set (now (previous .entry)) i (at (now (recent .entry)) (at (now (servers .entry)) i)) ⌝ }
+{
+    let k = size(i);
+    let y = size(servers[k]);
+    previous[k] = recent[y];
+    recent[y] = i;
+}
+
+// The previous request of each of requests 0 to n, and zeros beyond.
+fn link(servers: &[u16; 2049], n: u16, previous: &mut [u16])
+    requires { ⌜ (n ≤ 2048) × ((k : ℕ) → at (now servers) k < 64) × (length (now previous) ≡ 2049) ⌝ }
+    ensures { λ _. ⌜ now (previous .exit) ≡ lent Passed (links (now (servers .entry)) n) (now (previous .entry)) ⌝ }
+{
+    let mut recent = [NONE; 64];
+    let mut i: u16 = 0;
+    while i <= n {
+        link_one(servers, i, &mut recent, previous);
+        i += 1;
+    }
+    clear16(previous, size(n) + 1);
+}
+
+// Read a log, its requests from index 1 on.
+fn read_requests(log: &[u8], seconds: &mut [u32], servers: &mut [u16]) -> Decoded
+    requires { ⌜ (length (now seconds) ≡ 2049) × (length (now servers) ≡ 2049) ⌝ }
+    ensures { λ r. ⌜ r ≡ decoded (verdict-of (now (log .entry))) (now (log .entry)) ⌝ }
+    ensures { λ _. ⌜ now (seconds .exit) ≡ take 1 (now (seconds .entry)) ++ lent (verdict-of (now (log .entry))) (seconds-of (now (log .entry))) (drop 1 (now (seconds .entry))) ⌝ }
+    ensures { λ _. ⌜ now (servers .exit) ≡ take 1 (now (servers .entry)) ++ lent (verdict-of (now (log .entry))) (servers-of (now (log .entry))) (drop 1 (now (servers .entry))) ⌝ }
+{
+    read(log, &mut seconds[1..], &mut servers[1..])
+}
+
+// Read a log: the seconds and servers of its requests, the previous request of each, and what else it says.
+pub fn load(
+    log: &[u8],
+    seconds: &mut [u32; 2049],
+    servers: &mut [u16; 2049],
+    previous: &mut [u16; 2049],
+) -> Loaded
+    ensures { λ r. ⌜ r ≡ loaded (verdict-of (now (log .entry))) (now (log .entry)) ⌝ }
+    ensures { λ _. ⌜ now (seconds .exit) ≡ lent (verdict-of (now (log .entry))) (seconds-with-home (now (log .entry))) (now (seconds .entry)) ⌝ }
+    ensures { λ _. ⌜ now (servers .exit) ≡ lent (verdict-of (now (log .entry))) (servers-with-home (now (log .entry))) (now (servers .entry)) ⌝ }
+    ensures { λ _. ⌜ now (previous .exit) ≡ lent (verdict-of (now (log .entry))) (links (servers-with-home (now (log .entry))) (request-count (now (log .entry)))) (now (previous .entry)) ⌝ }
+{
+    let decoded = read_requests(log, seconds, servers);
+    let outcome = decoded.outcome;
+    let header = decoded.header;
+    match outcome {
+        ReadOutcome::Refused(r) => Loaded::Refused(r),
+        ReadOutcome::Requests(n) => {
+            seconds[0] = 0;
+            servers[0] = half(header.home);
+            link(servers, n, previous);
+            Loaded::Log(Setup {
+                requests: n,
+                server_count: header.server_count,
+                prices: of_class(header.class),
+            })
+        }
+    }
+}

@@ -1,0 +1,208 @@
+// The rows of a plan, from its marks and the words of the holders over its gaps.
+ghost use mathlib.Core.Path.{_≡_};
+ghost use mathlib.Core.List.{[], _∷_};
+ghost use Prim.Native.Nat.{suc, _+_, _-_, _*_, _<_, _≤_};
+ghost use lib.ListN.{length, getD};
+ghost use Rattle.base.specs.Lists.{splice};
+ghost use Rattle.base.specs.Sets.{has, lowest};
+ghost use Rattle.model.specs.Marking.{begins-run, run-end, hold-rows, transfers};
+ghost use Rattle.planner.specs.HolderWords.{marking};
+ghost use Rattle.planner.specs.RowWriting.{put-rows};
+ghost use Rattle.planner.specs.Asked.{asks};
+ghost use Rattle.planner.specs.WordRows.{holder-at, new-hold, word-holds, word-source, new-transfer, word-rows};
+use crate::reads::kept;
+use crate::reads::second;
+use crate::reads::server;
+use crate::reads::size;
+use crate::reads::word;
+use base::sets::has;
+use base::sets::lowest;
+
+fn number(x: u16) -> u32
+    ensures { λ r. ⌜ r ≡ x ⌝ }
+{
+    x as u32
+}
+
+fn index(k: u32) -> usize
+    ensures { λ r. ⌜ (r ≡ k) × (r < 4294967296) ⌝ }
+{
+    k as usize
+}
+
+// Four numbers as row k, where they fit.
+fn put_row(out: &mut [u32], k: u32, kind: u32, a: u32, b: u32, c: u32)
+    ensures { λ _. ⌜ now (out .exit) ≡ splice (4 * k) (kind ∷ a ∷ b ∷ c ∷ []) (now (out .entry)) ⌝ }
+{
+    let at = 4 * index(k);
+    if out.len() < at + 4 {
+        return;
+    }
+    out[at] = kind;
+    out[at + 1] = a;
+    out[at + 2] = b;
+    out[at + 3] = c;
+}
+
+// Server y holds over gap k.
+fn holds(words: &[u64], y: u16, k: usize) -> bool
+    ensures { λ r. ⌜ r ≡ holder-at (now (words .entry)) y k ⌝ }
+{
+    has(word(words, k), y)
+}
+
+// A hold of server y begins with gap k.
+fn begins(words: &[u64], y: u16, k: usize) -> bool
+    ensures { λ r. ⌜ r ≡ begins-run (holder-at (now (words .entry)) y) k ⌝ }
+{
+    if !holds(words, y, k) {
+        return false;
+    }
+    if k <= 1 {
+        return true;
+    }
+    !holds(words, y, k - 1)
+}
+
+// The last gap, of n, of server y's run that gap k is in.
+fn last_of_run(words: &[u64], y: u16, k: usize, n: usize) -> usize
+    ensures { λ r. ⌜ r ≡ run-end (holder-at (now (words .entry)) y) k (n - k) ⌝ }
+{
+    let mut e = k;
+    while e < n {
+        if !holds(words, y, e + 1) {
+            return e;
+        }
+        e += 1;
+    }
+    e
+}
+
+// The hold of server y that begins with gap k + 1, if one does, as row `at`; the number of the next row.
+fn put_hold(
+    times: &[u32],
+    words: &[u64],
+    n: usize,
+    y: u16,
+    k: usize,
+    at: u32,
+    out: &mut [u32],
+) -> u32
+    requires { ⌜ (k < n) × (at < 2147483648) ⌝ }
+    ensures { λ r. ⌜ (r ≡ at + length (new-hold (asks (now (times .entry)) []) (holder-at (now (words .entry)) y) n y k)) × (r ≤ at + 1) × (now (out .exit) ≡ put-rows at (new-hold (asks (now (times .entry)) []) (holder-at (now (words .entry)) y) n y k) (now (out .entry))) ⌝ }
+{
+    let gap = k + 1;
+    if !begins(words, y, gap) {
+        return at;
+    }
+    let end = last_of_run(words, y, gap, n);
+    put_row(out, at, 0, number(y), second(times, k), second(times, end));
+    at + 1
+}
+
+// The holds of server y.
+fn put_server(times: &[u32], words: &[u64], n: usize, y: u16, at: u32, out: &mut [u32]) -> u32
+    requires { ⌜ (n < 65536) × (at < 1073741824) ⌝ }
+    ensures { λ r. ⌜ (r ≡ at + length (hold-rows (asks (now (times .entry)) []) (holder-at (now (words .entry)) y) n y n)) × (r ≤ at + n) × (now (out .exit) ≡ put-rows at (hold-rows (asks (now (times .entry)) []) (holder-at (now (words .entry)) y) n y n) (now (out .entry))) ⌝ }
+{
+    let mut next = at;
+    let mut k: usize = 0;
+    while k < n {
+        next = put_hold(times, words, n, y, k, next, out);
+        k += 1;
+    }
+    next
+}
+
+// The holds of the servers below the count.
+fn put_holds(times: &[u32], words: &[u64], n: usize, count: u16, out: &mut [u32]) -> u32
+    requires { ⌜ (n < 65536) × (count < 256) ⌝ }
+    ensures { λ r. ⌜ (r ≡ length (word-holds (asks (now (times .entry)) []) (now (words .entry)) n count)) × (r < 1073741824) × (now (out .exit) ≡ put-rows 0 (word-holds (asks (now (times .entry)) []) (now (words .entry)) n count) (now (out .entry))) ⌝ }
+{
+    let mut next: u32 = 0;
+    let mut y: u16 = 0;
+    while y < count {
+        next = put_server(times, words, n, y, next, out);
+        y += 1;
+    }
+    next
+}
+
+// The source of a transfer: the lowest-numbered holder over the gap before it.
+fn source(w: u64) -> u32
+    ensures { λ r. ⌜ r ≡ lowest 64 (has w) ⌝ }
+{
+    lowest(w)
+}
+
+// The transfer to request k + 1, if it is S, as row `at`; the number of the next row.
+fn put_transfer(
+    times: &[u32],
+    servers: &[u16],
+    words: &[u64],
+    letters: &[u8],
+    k: usize,
+    at: u32,
+    out: &mut [u32],
+) -> u32
+    requires { ⌜ (k < 65536) × (at < 2147483648) ⌝ }
+    ensures { λ r. ⌜ (r ≡ at + length (new-transfer (asks (now (times .entry)) (now (servers .entry))) (marking (now (letters .entry))) (word-source (now (words .entry))) k)) × (r ≤ at + 1) × (now (out .exit) ≡ put-rows at (new-transfer (asks (now (times .entry)) (now (servers .entry))) (marking (now (letters .entry))) (word-source (now (words .entry))) k) (now (out .entry))) ⌝ }
+{
+    if kept(letters, k) {
+        return at;
+    }
+    let i = k + 1;
+    put_row(
+        out,
+        at,
+        1,
+        source(word(words, i)),
+        number(server(servers, i)),
+        second(times, i),
+    );
+    at + 1
+}
+
+// The transfers, from row `at` on.
+fn put_transfers(
+    times: &[u32],
+    servers: &[u16],
+    words: &[u64],
+    letters: &[u8],
+    n: usize,
+    at: u32,
+    out: &mut [u32],
+)
+    requires { ⌜ (n < 65536) × (at < 1073741824) ⌝ }
+    ensures { λ _. ⌜ now (out .exit) ≡ put-rows at (transfers (asks (now (times .entry)) (now (servers .entry))) (marking (now (letters .entry))) (word-source (now (words .entry))) n) (now (out .entry)) ⌝ }
+{
+    let mut next = at;
+    let mut k: usize = 0;
+    while k < n {
+        next = put_transfer(times, servers, words, letters, k, next, out);
+        k += 1;
+    }
+}
+
+fn half(x: u8) -> u16
+    ensures { λ r. ⌜ (r ≡ x) × (r < 256) ⌝ }
+{
+    x as u16
+}
+
+// The rows of n requests, into the front of a list.
+pub fn put_all(
+    times: &[u32],
+    servers: &[u16],
+    words: &[u64],
+    letters: &[u8],
+    n: u16,
+    count: u8,
+    out: &mut [u32],
+)
+    ensures { λ _. ⌜ now (out .exit) ≡ put-rows 0 (word-rows (asks (now (times .entry)) (now (servers .entry))) (now (words .entry)) count (marking (now (letters .entry))) n) (now (out .entry)) ⌝ }
+{
+    let end = size(n);
+    let next = put_holds(times, words, end, half(count), out);
+    put_transfers(times, servers, words, letters, end, next, out);
+}

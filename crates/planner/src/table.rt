@@ -1,0 +1,220 @@
+// The table of least costs, forward (model's TableRows): C(i) is the least cost of the first i requests, D(i) that with request i kept.
+ghost use mathlib.Core.Path.{_≡_};
+ghost use mathlib.Core.List.{_++_};
+ghost use Prim.Native.Nat.{suc, _+_, _*_, _-_, _^_, _≤_, _<_, min};
+ghost use lib.ListN.{length, drop, set};
+ghost use Rattle.model.specs.TableLists.{at, lists};
+ghost use Rattle.model.specs.TableRows.{row-step, row, next-D, next-C, Tabled};
+ghost use Rattle.planner.specs.Asked.{asks};
+ghost use Rattle.planner.specs.Terms.{terms-of, cheaper, kept-cost};
+ghost use Rattle.planner.specs.Fits.{Ready};
+use crate::NONE;
+use crate::reads::size;
+use prices::Prices;
+
+// What a request may be, and what that adds to the cost: the request that it can be kept from (NONE where there is none),
+// whether a transfer may serve it, and what it costs to hold over its span and over the gap before it.
+pub(crate) struct Terms {
+    pub(crate) from: u16,
+    pub(crate) sendable: bool,
+    pub(crate) span: u64,
+    pub(crate) gap: u64,
+}
+
+pub(crate) fn wide(x: u32) -> u64
+    ensures { λ r. ⌜ (r ≡ x) × (r < 2 ^ 32) ⌝ }
+{
+    x as u64
+}
+
+// What it costs to hold from one second to another.
+fn held(hold: u32, from: u32, to: u32) -> u64
+    requires { ⌜ from ≤ to ⌝ }
+    ensures { λ r. ⌜ r ≡ hold * (to - from) ⌝ }
+{
+    wide(hold) * wide(to - from)
+}
+
+// The terms of request i + 1.
+pub(crate) fn terms_at(
+    prices: Prices,
+    seconds: &[u32; 2049],
+    servers: &[u16; 2049],
+    previous: &[u16; 2049],
+    i: u16,
+) -> Terms
+    requires { ⌜ Ready prices (now seconds) (now servers) (now previous) (suc i) ⌝ }
+    ensures { λ r. ⌜ r ≡ terms-of prices (asks (now (seconds .entry)) (now (servers .entry))) i ⌝ }
+{
+    let k = size(i);
+    let from = previous[k + 1];
+    let second = seconds[k + 1];
+    let sendable = servers[k + 1] != servers[k];
+    let gap = held(prices.hold, seconds[k], second);
+    if from == NONE {
+        return Terms {
+            from,
+            sendable,
+            span: 0,
+            gap,
+        };
+    }
+    let j = size(from);
+    let span = held(prices.hold, seconds[j], second);
+    Terms {
+        from,
+        sendable,
+        span,
+        gap,
+    }
+}
+
+fn least(a: u64, b: u64) -> u64
+    ensures { λ r. ⌜ r ≡ min a b ⌝ }
+{
+    if a <= b {
+        return a;
+    }
+    b
+}
+
+// The lesser of what S and K cost, over what is legal.
+fn cheaper(a: Terms, sent: u64, kept: u64) -> u64
+    ensures { λ r. ⌜ r ≡ cheaper a sent kept ⌝ }
+{
+    if a.from == NONE {
+        return sent;
+    }
+    if a.sendable {
+        return least(sent, kept);
+    }
+    kept
+}
+
+// What K costs where the gaps above c are covered: d is the request's D, v the cost of the requests before it.
+fn kept_cost(a: Terms, c: u16, d: u64, v: u64) -> u64
+    requires { ⌜ (a .span < 2 ^ 60) × (v < 2 ^ 60) ⌝ }
+    ensures { λ r. ⌜ r ≡ kept-cost a c d v ⌝ }
+{
+    if a.from < c {
+        return d;
+    }
+    a.span + v
+}
+
+// From the cost v of k requests where the gaps above c are covered to that of one more.
+fn row_step(
+    prices: Prices,
+    seconds: &[u32; 2049],
+    servers: &[u16; 2049],
+    previous: &[u16; 2049],
+    keeps: &[u64],
+    c: u16,
+    k: u16,
+    v: u64,
+) -> u64
+    requires { ⌜ Ready prices (now seconds) (now servers) (now previous) (suc k) ⌝ }
+    requires { ⌜ (suc k < length (now keeps)) × (v < 2 ^ 60) ⌝ }
+    ensures { λ r. ⌜ r ≡ row-step prices (asks (now (seconds .entry)) (now (servers .entry))) c k (at (now (keeps .entry)) (suc k)) v ⌝ }
+{
+    let a = terms_at(prices, seconds, servers, previous, k);
+    let i = size(k);
+    let kept = kept_cost(a, c, keeps[i + 1], v);
+    cheaper(a, wide(prices.transfer) + v, kept)
+}
+
+// The least cost of i requests where the gaps above c are covered.
+fn row(
+    prices: Prices,
+    seconds: &[u32; 2049],
+    servers: &[u16; 2049],
+    previous: &[u16; 2049],
+    costs: &[u64],
+    keeps: &[u64],
+    c: u16,
+    i: u16,
+) -> u64
+    requires { ⌜ Ready prices (now seconds) (now servers) (now previous) i ⌝ }
+    requires { ⌜ Tabled prices (asks (now seconds) (now servers)) i (at (now costs)) (at (now keeps)) ⌝ }
+    requires { ⌜ (c ≤ i) × (i < length (now costs)) × (i < length (now keeps)) ⌝ }
+    ensures { λ r. ⌜ r ≡ row prices (asks (now (seconds .entry)) (now (servers .entry))) (at (now (costs .entry))) (at (now (keeps .entry))) c i ⌝ }
+{
+    let first = size(c);
+    let mut v = costs[first];
+    let mut k = c;
+    while k < i {
+        v = row_step(prices, seconds, servers, previous, keeps, c, k, v);
+        k += 1;
+    }
+    v
+}
+
+// D(i + 1), by the terms of that request; 0 where it cannot be kept.
+fn next_keep(
+    prices: Prices,
+    seconds: &[u32; 2049],
+    servers: &[u16; 2049],
+    previous: &[u16; 2049],
+    costs: &[u64],
+    keeps: &[u64],
+    a: Terms,
+    i: u16,
+) -> u64
+    requires { ⌜ Ready prices (now seconds) (now servers) (now previous) (suc i) ⌝ }
+    requires { ⌜ Tabled prices (asks (now seconds) (now servers)) i (at (now costs)) (at (now keeps)) ⌝ }
+    requires { ⌜ (a ≡ terms-of prices (asks (now seconds) (now servers)) i) × (i < length (now costs)) × (i < length (now keeps)) ⌝ }
+    ensures { λ r. ⌜ r ≡ next-D prices (asks (now (seconds .entry)) (now (servers .entry))) (at (now (costs .entry))) (at (now (keeps .entry))) i ⌝ }
+{
+    if a.from == NONE {
+        return 0;
+    }
+    a.span + row(prices, seconds, servers, previous, costs, keeps, a.from, i)
+}
+
+// C(i + 1) and D(i + 1), after those up to i.
+fn extend(
+    prices: Prices,
+    seconds: &[u32; 2049],
+    servers: &[u16; 2049],
+    previous: &[u16; 2049],
+    i: u16,
+    costs: &mut [u64],
+    keeps: &mut [u64],
+)
+    requires { ⌜ Ready prices (now seconds) (now servers) (now previous) (suc i) ⌝ }
+    requires { ⌜ Tabled prices (asks (now seconds) (now servers)) i (at (now costs)) (at (now keeps)) ⌝ }
+    requires { ⌜ (suc i < length (now costs)) × (suc i < length (now keeps)) ⌝ }
+    ensures { λ _. ⌜ now (costs .exit) ≡ set (now (costs .entry)) (suc i) (next-C prices (asks (now (seconds .entry)) (now (servers .entry))) i (next-D prices (asks (now (seconds .entry)) (now (servers .entry))) (at (now (costs .entry))) (at (now (keeps .entry))) i) (at (now (costs .entry)) i)) ⌝ }
+    ensures { λ _. ⌜ now (keeps .exit) ≡ set (now (keeps .entry)) (suc i) (next-D prices (asks (now (seconds .entry)) (now (servers .entry))) (at (now (costs .entry))) (at (now (keeps .entry))) i) ⌝ }
+{
+    let k = size(i);
+    let a = terms_at(prices, seconds, servers, previous, i);
+    let d = next_keep(prices, seconds, servers, previous, costs, keeps, a, i);
+    let sent = wide(prices.transfer) + a.gap + costs[k];
+    costs[k + 1] = cheaper(a, sent, d);
+    keeps[k + 1] = d;
+}
+
+// C(0) to C(n) and D(0) to D(n), at the front of two lists.
+pub(crate) fn fill(
+    prices: Prices,
+    seconds: &[u32; 2049],
+    servers: &[u16; 2049],
+    previous: &[u16; 2049],
+    n: u16,
+    costs: &mut [u64],
+    keeps: &mut [u64],
+)
+    requires { ⌜ Ready prices (now seconds) (now servers) (now previous) n ⌝ }
+    requires { ⌜ (n < length (now costs)) × (n < length (now keeps)) ⌝ }
+    ensures { λ _. ⌜ now (costs .exit) ≡ lists prices (asks (now (seconds .entry)) (now (servers .entry))) n .costs ++ drop (suc n) (now (costs .entry)) ⌝ }
+    ensures { λ _. ⌜ now (keeps .exit) ≡ lists prices (asks (now (seconds .entry)) (now (servers .entry))) n .keeps ++ drop (suc n) (now (keeps .entry)) ⌝ }
+{
+    costs[0] = 0;
+    keeps[0] = 0;
+    let mut i: u16 = 0;
+    while i < n {
+        extend(prices, seconds, servers, previous, i, costs, keeps);
+        i += 1;
+    }
+}
