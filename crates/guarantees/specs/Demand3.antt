@@ -26,9 +26,11 @@ use Rattle.model.specs.RowForm.{flat}
 use Rattle.checker.specs.declared.Checked.{Checked}
 use Rattle.checker.specs.declared.Checked.the-variants as answer
 use Rattle.checker.specs.Answers.{check-conditions, check-verdict-of, checked, check-answer}
-use Rattle.planner.specs.Answers.{planned-rows, rows-of-plan, plan-verdict, least-costs}
-use Rattle.online.specs.Answers.{start-verdict}
-use Rattle.online.specs.Calls.{Call}
+use Rattle.planner.specs.declared.Planned.the-variants as planner
+use Rattle.planner.specs.Answers.{planned-rows, rows-of-plan, plan-verdict, planned, least-costs}
+use Rattle.online.specs.declared.Cache.{Cache}
+use Rattle.online.specs.Answers.{start-verdict, scan-verdict, close-verdict, scanned, closed-answer}
+use Rattle.online.specs.Calls.{Call, scan, close, verdict, after}
 use Rattle.online.specs.Claim.{Claim, claim}
 use Rattle.guarantees.specs.Optimality.{Optimal, optimal}
 
@@ -39,6 +41,13 @@ pub record Planned-best (log : List ℕ) (k : ℕ) : Type 0 where
   pub says : decode (cut k log) ≡ first-requests k (decode log)
   -- with outputs long enough it is not refused
   pub answered : (marks rows : ℕ) → k ≤ marks → length (rows-of-plan (cut k log)) ≤ rows → plan-verdict (cut k log) marks rows ≡ Passed
+  -- and the answer is the cost and the number of rows
+  pub gives : (marks rows : ℕ) → k ≤ marks → length (rows-of-plan (cut k log)) ≤ rows
+      → planned (plan-verdict (cut k log) marks rows) (cut k log)
+      ≡ planner.Plan (plan-cost (prices-in (cut k log)) (requests-in (cut k log)) k) (length (planned-rows (cut k log)))
+  -- the planned rows are those of the plan of its k requests
+  pub rows-are : rows-of-plan (cut k log)
+      ≡ flat (plan-rows (prices-in (cut k log)) (requests-in (cut k log)) (server-count (cut k log)) k)
   -- the checker accepts the planned rows with the planned cost
   pub checks : check-answer (cut k log) (rows-of-plan (cut k log)) ≡ answer.Cost (plan-cost (prices-in (cut k log)) (requests-in (cut k log)) k)
   -- they are well formed and feasible, cost that, and no feasible schedule costs less
@@ -83,6 +92,11 @@ module _ (log : List ℕ) (k : ℕ) (a : Accepted log) (h : k ≤ request-count 
       first-append (log-conditions part) _
       ∙ rw (part-accepted, part-count, le-ltb marks k u, le-ltb rows (length (rows-of-plan part)) w)
 
+  gives : (marks rows : ℕ) → k ≤ marks → length (rows-of-plan part) ≤ rows
+      → planned (plan-verdict part marks rows) part ≡ planner.Plan (plan-cost (prices-in part) (requests-in part) k) (length (planned-rows part))
+  unfolding planned
+  gives marks rows u w = rw (answered marks rows u w, part-count)
+
   least-is : getD (least-costs log) k 0 ≡ plan-cost (prices-in part) (requests-in part) k
   unfolding least-costs part
   least-is =
@@ -100,10 +114,22 @@ planned-best log k a h =
       accepted = part-accepted log k a h;
       says = cut-decodes log k a h;
       answered = answered log k a h;
+      gives = gives log k a h;
+      rows-are = part-rows log k a h;
       checks = checks log k a h;
       best = part-best log k a h;
       least-is = least-is log k a h;
     }
+
+-- the calls of a list are those of the contracts: each gives back the state of the contract's answer, and is refused by its verdict
+pub scan-call : (c : Cache) (second server : ℕ)
+    → (after c (scan second server) ≡ scanned c second server .cache) × (verdict c (scan second server) ≡ scan-verdict c second server)
+unfolding after verdict
+scan-call c second server = (refl, refl)
+
+pub close-call : (c : Cache) → (after c close ≡ closed-answer c .cache) × (verdict c close ≡ close-verdict c)
+unfolding after verdict
+close-call c = (refl, refl)
 
 -- THE ONLINE HALF: for every start that is not refused and every list of scan and close calls, refused ones included
 pub online-within-three : (class′ count home : ℕ) → start-verdict class′ count home ≡ Passed → (calls : List Call) → Claim class′ count home calls

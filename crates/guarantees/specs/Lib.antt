@@ -3,4 +3,6 @@ pub mod Week
 pub mod Weeks
 pub mod Optimality
 pub mod Calls
+pub mod RoundTrips
+pub mod CheckerAccepts
 pub mod Demand3

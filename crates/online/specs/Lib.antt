@@ -3,9 +3,12 @@ pub mod Servers
 pub mod Rules
 pub mod Conditions
 pub mod Answers
+pub mod Serving
 pub mod Calls
 pub mod History
 pub mod ServerLaws
+pub mod ConditionLaws
+pub mod StartLaws
 pub mod HistoryLaws
 pub mod Seconds
 pub mod Potential
@@ -14,6 +17,7 @@ pub mod Holding
 pub mod NotBelow
 pub mod Agreement
 pub mod Sound
+pub mod Widths
 pub mod Passed
 pub mod CallLaws
 pub mod Follows

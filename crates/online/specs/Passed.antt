@@ -1,4 +1,4 @@
--- What a start and a scan have that are not refused.
+-- What a start, a scan and a close have that are not refused.
 use mathlib.Core.Bool.{false}
 use mathlib.Core.Logic.{_≢_}
 use mathlib.Core.Path.{_≡_}
@@ -11,8 +11,8 @@ use Rattle.base.specs.RefusalLaws.{first-passed}
 use Rattle.base.specs.declared.Verdict.the-variants.{Passed}
 use Rattle.log.specs.Conditions.{setup-conditions}
 use Rattle.online.specs.declared.Cache.{Cache}
-use Rattle.online.specs.Conditions.{scan-conditions}
-use Rattle.online.specs.Answers.{start-verdict, scan-verdict}
+use Rattle.online.specs.Conditions.{scan-conditions, close-conditions}
+use Rattle.online.specs.Answers.{start-verdict, scan-verdict, close-verdict}
 use Rattle.online.specs.Sound.{Sound, unbroken-sound}
 
 -- class, server count and home of a start that is not refused
@@ -60,3 +60,8 @@ scan-passed c second server e =
       room = leb-false _ _ (f 4);
       later = leb-false _ _ (f 5);
     }
+
+-- the state of a close that is not refused
+pub close-passed : (c : Cache) → close-verdict c ≡ Passed → Sound c
+unfolding close-verdict close-conditions
+close-passed c e = unbroken-sound c (first-passed (close-conditions c) .0 e 0)

@@ -1,22 +1,32 @@
-// The online cache (01: the live keeper): its state and its answers.
+// The online cache (01: the live keeper): its state and its answers. The calls are in start, scan and close.
+mod close;
+mod conditions;
+mod scan;
+mod start;
+mod state;
+
 use base::Refusal;
 
 // The state (01's 'The live keeper'). Every field is public, so that a caller can hand in any state.
 pub struct Cache {
+    // the price class
     pub class: u8,
+    // the number of servers (01: stations)
     pub server_count: u8,
-    // the server of the last request, home before any
+    // the server of the last request (01: scan), home before any
     pub last: u16,
-    // the second of the last request
+    // the second of the last request, 0 before any
     pub second: u32,
     // the last use of each server's copy (01: use second)
     pub last_use: [u32; 64],
     // the servers where a copy stands, as a set in a word
     pub holders: u64,
+    // the requests taken, and the transfers (01: sends) among them
     pub requests: u32,
     pub transfers: u32,
-    // the seconds held by all copies
+    // the seconds held by all copies up to the last request
     pub held: u32,
+    // a close ends scanning
     pub closed: bool,
 }
 
@@ -26,6 +36,7 @@ pub enum StartOutcome {
     Refused(Refusal),
 }
 
+// A start's answer and its state, zeros where it is refused.
 pub struct Started {
     pub cache: Cache,
     pub outcome: StartOutcome,
@@ -38,17 +49,19 @@ pub enum ScanOutcome {
     Refused(Refusal),
 }
 
+// A scan's answer and the next state, the same where it is refused.
 pub struct Scanned {
     pub cache: Cache,
     pub outcome: ScanOutcome,
 }
 
-// A close gives the running cost, or is refused.
+// A close gives the running cost (01: running bill), or is refused.
 pub enum CloseOutcome {
     Cost(u64),
     Refused(Refusal),
 }
 
+// A close's answer and the closed state, the same where it is refused.
 pub struct Closed {
     pub cache: Cache,
     pub outcome: CloseOutcome,

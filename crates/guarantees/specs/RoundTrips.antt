@@ -1,0 +1,53 @@
+-- The round trips of the log: what is written is read back, what was read is written as it was, and a cut log says the first requests.
+use mathlib.Core.List.{List}
+use mathlib.Core.Logic.{_↔_}
+use mathlib.Core.Path.{_≡_}
+use Prim.Native.Nat.{ℕ, _≤_}
+use Rattle.base.specs.BytesLaws.{Are-bytes}
+use Rattle.log.specs.Fields.{request-count}
+use Rattle.log.specs.Conditions.{Accepted}
+use Rattle.log.specs.Contents.{Contents, decode, encode, first-requests, cut}
+use Rattle.log.specs.AcceptedLaws.{Proper, Writable, writable-proper, proper-writable}
+use Rattle.log.specs.EncodeLaws.{Sixteen}
+use Rattle.log.specs.RoundTrip.{decode-encode, encode-accepted, encode-bytes, decode-writable, encode-decode}
+use Rattle.log.specs.Cutting.{cut-accepted, cut-decodes, cut-bytes, cut-all}
+
+-- the writer takes exactly the headers and lists of requests that are in range
+pub taken-in-range : (c : Contents) → Writable c ↔ Proper c
+taken-in-range c = (writable-proper c, proper-writable c)
+
+-- a written log is accepted
+pub written-accepted : (c : Contents) → Writable c → Sixteen c → Accepted (encode c)
+written-accepted = encode-accepted
+
+-- it is made of bytes, as the id is
+pub written-bytes : (c : Contents) → Writable c → Are-bytes (c .header .id) → Are-bytes (encode c)
+written-bytes = encode-bytes
+
+-- it is read back as it was given
+pub written-reads-back : (c : Contents) → Writable c → Sixteen c → decode (encode c) ≡ c
+written-reads-back = decode-encode
+
+-- what an accepted log says can be written
+pub read-taken : (log : List ℕ) → Accepted log → Writable (decode log)
+read-taken = decode-writable
+
+-- and written again it gives the same bytes
+pub read-writes-back : (log : List ℕ) → Accepted log → Are-bytes log → encode (decode log) ≡ log
+read-writes-back = encode-decode
+
+-- an accepted log cut to its first k requests is accepted
+pub cut-is-accepted : (log : List ℕ) (k : ℕ) → Accepted log → k ≤ request-count log → Accepted (cut k log)
+cut-is-accepted = cut-accepted
+
+-- it says the first k requests, with the same header
+pub cut-says : (log : List ℕ) (k : ℕ) → Accepted log → k ≤ request-count log → decode (cut k log) ≡ first-requests k (decode log)
+cut-says = cut-decodes
+
+-- it is made of bytes, as the log is
+pub cut-is-bytes : (log : List ℕ) (k : ℕ) → Accepted log → k ≤ request-count log → Are-bytes log → Are-bytes (cut k log)
+cut-is-bytes = cut-bytes
+
+-- cut to all its requests a log stays as it is
+pub cut-to-all : (log : List ℕ) → Accepted log → Are-bytes log → cut (request-count log) log ≡ log
+cut-to-all = cut-all

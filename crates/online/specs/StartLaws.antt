@@ -1,0 +1,37 @@
+-- The lists and words of a fresh state, as the code makes them. Assumes nothing.
+use mathlib.Core.List.{List, [], _∷_, _++_}
+use mathlib.Core.Logic.{_⊎_, inl, inr, _≢_}
+use mathlib.Core.Path.{_≡_, refl, ap, _∙_}
+use native.Mathlib.Omega.{arith}
+use Prim.Native.Nat.{ℕ, zero, suc, _≤_, _<_}
+use lib.Dec.{ltb, eqb}
+use lib.ListN.{replicate}
+use borrow.Author.Tests.{eq-eqb, ne-eqb, lt-ltb, le-ltb}
+use Rattle.base.specs.Choice.{pick, le-or-lt, same-or-not}
+use Rattle.base.specs.Sets.{put}
+use Rattle.base.specs.Lists.{build}
+use Rattle.online.specs.Servers.{set-of}
+
+-- one more of the same at the end
+replicate-end : (n x : ℕ) → replicate n x ++ (x ∷ []) ≡ replicate (suc n) x
+replicate-end zero x = refl
+replicate-end (suc n) x = ap (λ (l : List ℕ). x ∷ l) (replicate-end n x)
+
+-- a list of one number, built
+pub build-const : (n x : ℕ) → build n (λ y. x) ≡ replicate n x
+unfolding build
+build-const zero x = refl
+build-const (suc n) x = ap (λ (l : List ℕ). l ++ (x ∷ [])) (build-const n x) ∙ replicate-end n x
+
+-- the set of one server, if it is below n
+pub set-one : (n a : ℕ) → set-of n (λ y. eqb y a) ≡ pick (ltb a n) (put 0 a) 0
+unfolding set-of
+set-one zero a = rw (le-ltb a 0 (omega arith))
+set-one (suc n) a = go (same-or-not n a) (le-or-lt n a) (set-one n a)
+  where
+    go : (n ≡ a) ⊎ (n ≢ a) → (n ≤ a) ⊎ (a < n) → set-of n (λ y. eqb y a) ≡ pick (ltb a n) (put 0 a) 0
+        → set-of (suc n) (λ y. eqb y a) ≡ pick (ltb a (suc n)) (put 0 a) 0
+    go (inl e) l ih =
+        rw (eq-eqb n a e, ih, lt-ltb a (suc n) (omega arith), le-ltb a n (omega arith)) (ap (put 0) e)
+    go (inr e) (inl l) ih = rw (ne-eqb n a e, ih, le-ltb a (suc n) (omega arith), le-ltb a n l)
+    go (inr e) (inr l) ih = rw (ne-eqb n a e, ih, lt-ltb a (suc n) (omega arith), lt-ltb a n l)

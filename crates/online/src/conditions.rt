@@ -1,0 +1,125 @@
+// The conditions of a scan and of a close, in 01's order.
+ghost use mathlib.Core.Path.{_≡_};
+ghost use lib.Dec.{ltb, eqb};
+ghost use Rattle.base.specs.Choice.{either};
+ghost use Rattle.online.specs.Servers.{some-server};
+ghost use Rattle.online.specs.Rules.{window-of};
+ghost use Rattle.online.specs.Conditions.{server-broken, broken};
+ghost use Rattle.online.specs.Answers.{scan-verdict, close-verdict};
+use crate::Cache;
+use crate::state::copy_at;
+use crate::state::expiry;
+use crate::state::half;
+use crate::state::use_at;
+use crate::state::wide;
+use crate::state::window_of;
+use base::Verdict;
+use base::refusals::or_else;
+
+// A number is 0, or above the most that is allowed.
+fn outside(x: u32, most: u32) -> bool
+    ensures { λ r. ⌜ r ≡ either (eqb x 0) (ltb most x) ⌝ }
+{
+    if x == 0 {
+        return true;
+    }
+    most < x
+}
+
+// 1 to 64 servers are allowed.
+fn count_outside(count: u8) -> bool
+    ensures { λ r. ⌜ r ≡ either (eqb count 0) (ltb 64 count) ⌝ }
+{
+    outside(count as u32, 64)
+}
+
+// Server y is at fault: a copy at or above the count, a last use after the last second, a copy expired before it, or a last use without a copy.
+fn server_broken(cache: Cache, window: u32, y: u16) -> bool
+    requires { ⌜ window ≡ window-of cache ⌝ }
+    ensures { λ r. ⌜ r ≡ server-broken cache y ⌝ }
+{
+    let used = use_at(cache, y);
+    if cache.second < used {
+        return true;
+    }
+    if copy_at(cache, y) {
+        if half(cache.server_count) <= y {
+            return true;
+        }
+        if y == cache.last {
+            return false;
+        }
+        return expiry(used, window) < wide(cache.second);
+    }
+    used != 0
+}
+
+// Some server is at fault.
+fn servers_broken(cache: Cache) -> bool
+    ensures { λ r. ⌜ r ≡ some-server 64 (server-broken cache) ⌝ }
+{
+    let window = window_of(cache);
+    let mut y: u16 = 0;
+    while y < 64 {
+        if server_broken(cache, window, y) {
+            return true;
+        }
+        y += 1;
+    }
+    false
+}
+
+// 32: the state is out of range, or some server is at fault.
+fn broken(cache: Cache) -> bool
+    ensures { λ r. ⌜ r ≡ broken cache ⌝ }
+{
+    let last = cache.last;
+    if 7 < cache.class {
+        return true;
+    }
+    if count_outside(cache.server_count) {
+        return true;
+    }
+    if 4000000 < cache.second {
+        return true;
+    }
+    if half(cache.server_count) <= last {
+        return true;
+    }
+    if !copy_at(cache, last) {
+        return true;
+    }
+    if use_at(cache, last) != cache.second {
+        return true;
+    }
+    if 2048 < cache.requests {
+        return true;
+    }
+    if cache.requests < cache.transfers {
+        return true;
+    }
+    if 256000000 < cache.held {
+        return true;
+    }
+    servers_broken(cache)
+}
+
+// What refuses a scan: 11, 12, 32 to 35.
+pub fn scan_fault(cache: Cache, second: u32, server: u16) -> Verdict
+    ensures { λ r. ⌜ r ≡ scan-verdict cache second server ⌝ }
+{
+    let v = or_else(Verdict::Passed, half(cache.server_count) <= server, 11, 0);
+    let v = or_else(v, outside(second, 4000000), 12, 0);
+    let v = or_else(v, broken(cache), 32, 0);
+    let v = or_else(v, cache.closed, 33, 0);
+    let v = or_else(v, 2048 <= cache.requests, 34, 0);
+    or_else(v, second <= cache.second, 35, 0)
+}
+
+// What refuses a close: 32, 33.
+pub fn close_fault(cache: Cache) -> Verdict
+    ensures { λ r. ⌜ r ≡ close-verdict cache ⌝ }
+{
+    let v = or_else(Verdict::Passed, broken(cache), 32, 0);
+    or_else(v, cache.closed, 33, 0)
+}

@@ -1,0 +1,54 @@
+// What a state says of its class and of each server. A server from 64 on has no copy and no last use.
+ghost use mathlib.Core.Path.{_≡_};
+ghost use Prim.Native.Nat.{_+_, _<_, _^_};
+ghost use Rattle.online.specs.Rules.{window-of, copy-at, use-at};
+use crate::Cache;
+use base::sets::has;
+use prices::of_class;
+use prices::window;
+
+// A number of 32 bits, as a wider one.
+pub fn wide(x: u32) -> u64
+    ensures { λ r. ⌜ (r ≡ x) × (r < 2 ^ 32) ⌝ }
+{
+    x as u64
+}
+
+// A byte, as a wider number.
+pub fn half(x: u8) -> u16
+    ensures { λ r. ⌜ (r ≡ x) × (r < 256) ⌝ }
+{
+    x as u16
+}
+
+// The window of the state's class.
+pub fn window_of(cache: Cache) -> u32
+    ensures { λ r. ⌜ r ≡ window-of cache ⌝ }
+{
+    window(of_class(cache.class))
+}
+
+// Does a copy stand at server y?
+pub fn copy_at(cache: Cache, y: u16) -> bool
+    ensures { λ r. ⌜ r ≡ copy-at cache y ⌝ }
+{
+    has(cache.holders, y)
+}
+
+// Its last use.
+pub fn use_at(cache: Cache, y: u16) -> u32
+    ensures { λ r. ⌜ r ≡ use-at cache y ⌝ }
+{
+    if 64 <= y {
+        return 0;
+    }
+    let at = y as usize;
+    cache.last_use[at]
+}
+
+// The last second of a copy that was used last at a second.
+pub fn expiry(used: u32, window: u32) -> u64
+    ensures { λ r. ⌜ r ≡ used + window ⌝ }
+{
+    wide(used) + wide(window)
+}
