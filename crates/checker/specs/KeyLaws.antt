@@ -72,13 +72,16 @@ module _ (count last : ℕ) (ns : List ℕ) (s : Shaped count last ns) where
       go (inl e) r = rw e next
       go (inr d) r = omega (arith, next, r (omega arith) (omega arith), key-end count last (s .few) (s .early) (row-at ns j) (s .fit-at j (omega arith)))
 
-  -- so a row is at no lower place than one before it
-  pub keys-stay : (i j : ℕ) → i ≤ j → j < row-count ns → key (row-at ns i) ≤ key (row-at ns j)
+  -- so a row is at a higher place than every one before it
+  pub keys-up : (i j : ℕ) → i < j → j < row-count ns → key (row-at ns i) < key (row-at ns j)
+  keys-up i j l h = omega (arith, keys-rise i j l h, key-end count last (s .few) (s .early) (row-at ns i) (s .fit-at i (omega arith)))
+
+  keys-stay : (i j : ℕ) → i ≤ j → j < row-count ns → key (row-at ns i) ≤ key (row-at ns j)
   keys-stay i j l h = go (same-or-not i j)
     where
       go : (i ≡ j) ⊎ (i ≡ j → ⊥) → key (row-at ns i) ≤ key (row-at ns j)
       go (inl e) = rw e (omega arith)
-      go (inr d) = omega (arith, keys-rise i j (omega arith) h, key-end count last (s .few) (s .early) (row-at ns i) (s .fit-at i (omega arith)))
+      go (inr d) = omega (arith, keys-up i j (omega arith) h)
 
   -- halving finds the first row at a place or later
   position-lowest : (k : ℕ) → Lowest (row-count ns) (from-on ns k) (position ns k)

@@ -7,10 +7,17 @@ pub mod Search
 pub mod SearchLaws
 pub mod KeyLaws
 pub mod Quick
+pub mod AnyLaws
 pub mod QuickSets
 pub mod QuickReach
 pub mod QuickRounds
+pub mod QuickStanding
+pub mod QuickHolds
+pub mod QuickFed
+pub mod QuickTransfers
+pub mod EachLaws
 pub mod QuickSteps
+pub mod CopySteps
 pub mod QuickParts
 pub mod QuickTests
 pub mod CostLaws

@@ -1,5 +1,5 @@
 -- The servers where a copy stands at a second, and the conditions 14 to 18 by them, as the code comes by them. Assumes nothing.
-use mathlib.Core.Bool.{Bool, true, false, not}
+use mathlib.Core.Bool.{Bool, false, not}
 use mathlib.Core.List.{List, [], _∷_, _++_}
 use Prim.Native.Nat.{ℕ, zero, suc, pred, _+_, _-_, _*_, _%_}
 use lib.Dec.{leb, ltb, eqb}
@@ -9,12 +9,11 @@ use Rattle.base.specs.Choice.{pick, both, either}
 use Rattle.base.specs.Refusals.{Condition, refuse, each}
 use Rattle.base.specs.Sets.{has, put}
 use Rattle.log.specs.Fields.{server-count, home-of, request-count}
-use Rattle.model.specs.Requests.{Requests}
 use Rattle.model.specs.LogRequests.{requests-in}
 use Rattle.model.specs.Schedule.{Row, hold, move, transfer}
 use Rattle.model.specs.RowForm.{row-at, fits}
 use Rattle.model.specs.Checking.{row-count, misplaced}
-use Rattle.checker.specs.Reading.{server-of, second-of}
+use Rattle.checker.specs.Reading.{server-of, second-of, target-of}
 use Rattle.checker.specs.Search.{hold-key, second-key, position}
 
 -- the set with server x, where a word has room for it
@@ -32,21 +31,22 @@ reaches ns τ x =
     let p = position ns (hold-key x τ) in
     both (not (eqb p 0)) (covers τ x (row-at ns (pred p)))
 
--- with server x, where a hold keeps the copy there up to τ; with those of the first n servers
-unfoldable pub with-hold : List ℕ → ℕ → ℕ → ℕ → ℕ
-with-hold ns τ w x = pick (reaches ns τ x) (join w x) w
+-- the servers where the n rows from one on begin or leave
+unfoldable pub sources : List ℕ → ℕ → ℕ → ℕ
+sources ns from zero = 0
+sources ns from (suc n) = join (sources ns from n) (server-of (row-at ns (from + n)))
 
-unfoldable pub gather : List ℕ → ℕ → ℕ → ℕ → ℕ
-gather ns τ w zero = w
-gather ns τ w (suc x) = with-hold ns τ (gather ns τ w x) x
+-- with server x of some, where a hold keeps the copy there up to τ; with those of them below n
+unfoldable pub with-hold : List ℕ → ℕ → ℕ → ℕ → ℕ → ℕ
+with-hold ns τ some w x = pick (both (has some x) (reaches ns τ x)) (join w x) w
+
+unfoldable pub gather : List ℕ → ℕ → ℕ → ℕ → ℕ → ℕ
+gather ns τ some w zero = w
+gather ns τ some w (suc x) = with-hold ns τ some (gather ns τ some w x) x
 
 -- at second 0 the copy is at home
 unfoldable pub begun : ℕ → ℕ → ℕ
 begun home τ = pick (eqb τ 0) (join 0 home) 0
-
--- the set before the transfers of τ
-unfoldable pub before-transfers : ℕ → ℕ → List ℕ → ℕ → ℕ
-before-transfers count home ns τ = gather ns τ (begun home τ) count
 
 -- with the target of a transfer of τ whose source is in the set
 unfoldable pub arrival : ℕ → ℕ → Row → ℕ
@@ -63,13 +63,22 @@ unfoldable pub settle : ℕ → (ℕ → ℕ) → ℕ → ℕ
 settle zero f w = w
 settle (suc m) f w = pick (eqb (f w) w) w (settle m f (f w))
 
--- the rows of second τ, once
-unfoldable pub second-pass : List ℕ → ℕ → ℕ → ℕ
-second-pass ns τ w =
-    let from = position ns (second-key τ) in
-    along ns τ from w (position ns (second-key (suc τ)) - from)
+-- the first row of second τ, and the number of its rows
+unfoldable pub first-of : List ℕ → ℕ → ℕ
+first-of ns τ = position ns (second-key τ)
 
--- the servers where a copy stands at τ
+unfoldable pub number-of : List ℕ → ℕ → ℕ
+number-of ns τ = position ns (second-key (suc τ)) - first-of ns τ
+
+-- the set at τ, of the sources of its transfers, before they are made
+unfoldable pub before-transfers : ℕ → ℕ → List ℕ → ℕ → ℕ
+before-transfers count home ns τ = gather ns τ (sources ns (first-of ns τ) (number-of ns τ)) (begun home τ) count
+
+-- the transfers of τ, once
+unfoldable pub second-pass : List ℕ → ℕ → ℕ → ℕ
+second-pass ns τ w = along ns τ (first-of ns τ) w (number-of ns τ)
+
+-- where a copy stands at τ, of the sources of its transfers and of the servers that no hold keeps up to τ
 unfoldable pub standing-at : ℕ → ℕ → List ℕ → ℕ → ℕ
 standing-at count home ns τ = settle count (second-pass ns τ) (before-transfers count home ns τ)
 
@@ -80,23 +89,84 @@ row-tests count n last ns i =
     ∷ refuse 16 (suc i) (misplaced ns i)
     ∷ []
 
--- 17 for row i
-unfoldable pub copy-test : ℕ → ℕ → List ℕ → ℕ → List Condition
-copy-test count home ns i =
-    refuse 17 (suc i) (not (has (standing-at count home ns (second-of (row-at ns i))) (server-of (row-at ns i)))) ∷ []
+-- ---- 17
 
--- 17 for each row from one on
-unfoldable pub copy-tests-from : ℕ → ℕ → List ℕ → ℕ → List Condition
-copy-tests-from count home ns from = each (λ j. copy-test count home ns (from + j)) (row-count ns - from)
+-- some number below n passes a test
+unfoldable pub any-below : ℕ → (ℕ → Bool) → Bool
+any-below zero f = false
+any-below (suc n) f = either (any-below n f) (f n)
 
--- 18 for request i + 1 of a log
+-- a transfer to server x
+unfoldable pub aims : ℕ → Row → Bool
+aims x (hold y a b) = false
+aims x (move (transfer y z σ)) = eqb z x
+
+-- a copy may come to server x at τ: home at second 0, or by a transfer of τ
+unfoldable pub fed : ℕ → List ℕ → ℕ → ℕ → Bool
+fed home ns τ x =
+    either (both (eqb τ 0) (eqb x home)) (any-below (number-of ns τ) (λ j. aims x (row-at ns (first-of ns τ + j))))
+
+-- a hold of server x that begins at τ
+unfoldable pub starts : ℕ → ℕ → Row → Bool
+starts τ x (hold y a b) = both (eqb y x) (eqb a τ)
+starts τ x (move v) = false
+
+-- the hold at server x from τ on if the set at τ has not x; past the last row where there is none
+unfoldable pub unfed : List ℕ → ℕ → ℕ → ℕ → ℕ
+unfed ns w τ x =
+    let p = position ns (hold-key x τ) in
+    pick (has w x) (row-count ns) (pick (starts τ x (row-at ns p)) p (row-count ns))
+
+-- the lower of two numbers
+unfoldable pub lower : ℕ → ℕ → ℕ
+lower a b = pick (ltb a b) a b
+
+-- the first hold to which the transfers among the n rows from one on bring no copy
+unfoldable pub starved : ℕ → ℕ → List ℕ → ℕ → ℕ → ℕ
+starved count home ns from zero = row-count ns
+starved count home ns from (suc n) =
+    let r = row-at ns (from + n) in
+    lower (unfed ns (standing-at count home ns (second-of r)) (second-of r) (target-of r)) (starved count home ns from n)
+
+-- the first of the n transfers from one on whose source is not in the set at its second; past the last row where there is none
+unfoldable pub unbacked : ℕ → ℕ → List ℕ → ℕ → ℕ → ℕ
+unbacked count home ns from zero = row-count ns
+unbacked count home ns from (suc n) =
+    let r = row-at ns (from + n) in
+    lower (pick (has (standing-at count home ns (second-of r)) (server-of r)) (row-count ns) (from + n)) (unbacked count home ns from n)
+
+-- hold i is the first of those, or no copy may come to its start
+unfoldable pub hold-test : ℕ → List ℕ → ℕ → ℕ → List Condition
+hold-test home ns low i =
+    refuse 17 (suc i) (either (eqb i low) (not (fed home ns (second-of (row-at ns i)) (server-of (row-at ns i))))) ∷ []
+
+-- the first transfer at fault
+unfoldable pub transfer-test : List ℕ → ℕ → List Condition
+transfer-test ns late = refuse 17 (suc late) (ltb late (row-count ns)) ∷ []
+
+-- each hold, then the transfers
+unfoldable pub copy-tests : ℕ → ℕ → List ℕ → List Condition
+copy-tests count home ns =
+    let holds = first-of ns 0 in
+    let rest = row-count ns - holds in
+    each (hold-test home ns (starved count home ns holds rest)) holds ++ transfer-test ns (unbacked count home ns holds rest)
+
+-- ---- 18
+
+-- a copy stands at server x at τ: a hold keeps it there, or the set at τ has x
+unfoldable pub stands-at : ℕ → ℕ → List ℕ → ℕ → ℕ → Bool
+stands-at count home ns τ x = either (reaches ns τ x) (has (standing-at count home ns τ) x)
+
+-- at request i + 1 of a log
+unfoldable pub served : List ℕ → List ℕ → ℕ → Bool
+served log ns i = stands-at (server-count log) (home-of log) ns (le32 log (40 + 6 * i)) (le16 log (44 + 6 * i))
+
 unfoldable pub serve-test : List ℕ → List ℕ → ℕ → List Condition
-serve-test log ns i =
-    refuse 18 (suc i) (not (has (standing-at (server-count log) (home-of log) ns (le32 log (40 + 6 * i))) (le16 log (44 + 6 * i)))) ∷ []
+serve-test log ns i = refuse 18 (suc i) (not (served log ns i)) ∷ []
 
 -- 14, then each row's 15 and 16, each row's 17, each request's 18
 unfoldable pub schedule-tests : List ℕ → List ℕ → List Condition
 schedule-tests log ns =
     refuse 14 0 (not (eqb (length ns % 4) 0))
     ∷ (each (row-tests (server-count log) (request-count log) (requests-in log .time (request-count log)) ns) (row-count ns)
-    ++ (copy-tests-from (server-count log) (home-of log) ns 0 ++ each (serve-test log ns) (request-count log)))
+    ++ (copy-tests (server-count log) (home-of log) ns ++ each (serve-test log ns) (request-count log)))

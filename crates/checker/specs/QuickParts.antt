@@ -1,7 +1,7 @@
 -- The conditions 14 to 18 part by part, as the code comes by them.
 use mathlib.Core.Bool.{not}
 use mathlib.Core.List.{List, [], _∷_, _++_}
-use mathlib.Core.Path.{_≡_, refl, sym, ap, _∙_}
+use mathlib.Core.Path.{_≡_, sym, ap, _∙_}
 use Prim.Native.Nat.{ℕ, _%_}
 use lib.Dec.{eqb}
 use lib.ListN.{length}
@@ -9,10 +9,9 @@ use Rattle.base.specs.declared.Verdict.{Verdict}
 use Rattle.base.specs.Refusals.{Condition, refuse, first, each}
 use Rattle.base.specs.RefusalLaws.{first-append, otherwise}
 use Rattle.log.specs.Fields.{server-count, home-of, request-count}
-use Rattle.model.specs.Requests.{Requests}
 use Rattle.model.specs.LogRequests.{requests-in}
 use Rattle.model.specs.Checking.{row-count}
-use Rattle.checker.specs.Quick.{row-tests, copy-tests-from, serve-test, schedule-tests}
+use Rattle.checker.specs.Quick.{row-tests, copy-tests, serve-test, schedule-tests}
 
 -- 14
 abbrev pub whole-test : List ℕ → List Condition
@@ -23,7 +22,7 @@ abbrev pub row-part : List ℕ → List ℕ → List Condition
 row-part log ns = each (row-tests (server-count log) (request-count log) (requests-in log .time (request-count log)) ns) (row-count ns)
 
 abbrev pub copy-part : List ℕ → List ℕ → List Condition
-copy-part log ns = copy-tests-from (server-count log) (home-of log) ns 0
+copy-part log ns = copy-tests (server-count log) (home-of log) ns
 
 abbrev pub serve-part : List ℕ → List ℕ → List Condition
 serve-part log ns = each (serve-test log ns) (request-count log)
@@ -47,5 +46,5 @@ pub row-part-read : (log ns : List ℕ) (count n last : ℕ) (v : Verdict) → c
 row-part-read log ns count n last v p q r e = rw (← r, ← p, ← q) (sym e)
 
 pub copy-part-read : (log ns : List ℕ) (count home : ℕ) (v : Verdict) → count ≡ server-count log → home ≡ home-of log
-    → v ≡ first (copy-tests-from count home ns 0) → first (copy-part log ns) ≡ v
+    → v ≡ first (copy-tests count home ns) → first (copy-part log ns) ≡ v
 copy-part-read log ns count home v p q e = rw (← p, ← q) (sym e)

@@ -1,25 +1,25 @@
--- For well-formed rows the set before the transfers of a second is `reached`, the holds of all rows in order.
-use mathlib.Core.Bool.{Bool, true, false, not}
+-- For well-formed rows a search finds the hold that keeps a copy at a server up to a second, if there is one.
+use mathlib.Core.Bool.{true, false, not}
 use mathlib.Core.List.{List}
 use mathlib.Core.Logic.{_⊎_, inl, inr, _≢_}
 use mathlib.Core.Path.{_≡_, refl, sym, ap, _∙_}
 use native.Mathlib.Omega.{arith}
-use Prim.Native.Nat.{ℕ, zero, suc, pred, _+_, _*_, _^_, _≤_, _<_}
+use Prim.Native.Nat.{ℕ, zero, suc, pred, _+_, _*_, _≤_, _<_}
 use lib.Dec.{leb, ltb, eqb}
-use borrow.Author.Tests.{ltb-true, leb-true, eqb-true, eqb-false, ne-eqb, lt-ltb, le-ltb, not-true}
+use borrow.Author.Tests.{ltb-true, leb-true, eqb-true, eqb-false, ne-eqb, lt-ltb, not-true}
 use Rattle.base.specs.Choice.{pick, both, either, le-or-lt, same-or-not, true-or-false, not-both}
 use Rattle.base.specs.Sets.{has, put}
-use Rattle.base.specs.SetLaws.{put-under, same-members}
 use Rattle.model.specs.BothLaws.{both-true}
-use Rattle.model.specs.Schedule.{Row, hold, move, Move, transfer}
-use Rattle.model.specs.Standing.{reach, through, reached}
-use Rattle.model.specs.RowForm.{row-at, rows-upto, rows-of, fits}
+use Rattle.model.specs.Schedule.{Row, hold, move}
+use Rattle.model.specs.Standing.{reached}
+use Rattle.model.specs.RowForm.{row-at, rows-of}
 use Rattle.model.specs.RowLaws.{fits-hold}
 use Rattle.model.specs.Checking.{row-count}
 use Rattle.checker.specs.Search.{hold-key, key, position}
 use Rattle.checker.specs.KeyLaws.{Shaped, end-key, keys-rise, position-within, before-position, from-position}
-use Rattle.checker.specs.Quick.{join, covers, reaches, with-hold, gather, begun, before-transfers}
-use Rattle.checker.specs.QuickSets.{same-test, any-below, any-is, any-of, through-more, through-has, gather-has}
+use Rattle.checker.specs.Quick.{join, covers, reaches, gather, begun, any-below}
+use Rattle.checker.specs.AnyLaws.{same-test, any-is, any-of}
+use Rattle.checker.specs.QuickSets.{both-none, through-has, gather-has}
 
 -- a row that covers server x at τ is a hold there, which began before τ and ends at τ or later
 pub record Covering (τ x : ℕ) (r : Row) : Type 0 where
@@ -52,7 +52,7 @@ module _ (count last : ℕ) (ns : List ℕ) (s : Shaped count last ns) (τ : ℕ
       go (suc i) d l n c = (i, omega arith, rw d at c)
 
   -- and it finds one where there is one: no row between it and the first after could begin before τ
-  finds : (x i : ℕ) → i < row-count ns → covers τ x (row-at ns i) ≡ true → reaches ns τ x ≡ true
+  pub finds : (x i : ℕ) → i < row-count ns → covers τ x (row-at ns i) ≡ true → reaches ns τ x ≡ true
   unfolding reaches key end-key hold-key
   finds x i l e = go (covering τ x (row-at ns i) e) (le-or-lt (position ns (hold-key x τ)) i) (position ns (hold-key x τ)) refl
     where
@@ -76,7 +76,7 @@ module _ (count last : ℕ) (ns : List ℕ) (s : Shaped count last ns) (τ : ℕ
               ))
 
   -- only a server below the count is covered
-  covered-below : (x i : ℕ) → i < row-count ns → covers τ x (row-at ns i) ≡ true → x < count
+  pub covered-below : (x i : ℕ) → i < row-count ns → covers τ x (row-at ns i) ≡ true → x < count
   covered-below x i l e =
       let h = covering τ x (row-at ns i) e in
       fits-hold count last x (h .from) (h .to) (rw (h .is) at (s .fit-at i l)) .0
@@ -95,53 +95,33 @@ module _ (count last : ℕ) (ns : List ℕ) (s : Shaped count last ns) (τ : ℕ
           let (i, l, h) = found x (both-true (ltb x count) (reaches ns τ x) e .1) in
           any-of (row-count ns) (λ i. covers τ x (row-at ns i)) i l h
 
-  -- ---- both sets are below 2 ^ 64
+  -- where no row covers x the search finds none
+  pub not-found : (x : ℕ) → any-below (row-count ns) (λ i. covers τ x (row-at ns i)) ≡ false → reaches ns τ x ≡ false
+  not-found x e = elim (true-or-false (reaches ns τ x)) [
+    | inl t ↦ let (i, l, h) = found x t in absurd (not-both (any-of (row-count ns) (λ i. covers τ x (row-at ns i)) i l h) e)
+    | inr t ↦ t
+  ]
 
-  gather-under : (w n : ℕ) → w < 2 ^ 64 → n ≤ 64 → gather ns τ w n < 2 ^ 64
-  unfolding gather with-hold join
-  gather-under w zero h l = h
-  gather-under w (suc n) h l = go (reaches ns τ n) (gather-under w n h (omega arith))
-    where
-      go : (t : Bool) → gather ns τ w n < 2 ^ 64 → pick t (pick (ltb n 64) (put (gather ns τ w n) n) (gather ns τ w n)) (gather ns τ w n) < 2 ^ 64
-      go true r = rw (lt-ltb n 64 l) (put-under 64 (gather ns τ w n) n r l)
-      go false r = r
+  -- ---- the sets before the transfers of τ
 
-  reach-under : (w : ℕ) (r : Row) → w < 2 ^ 64 → fits count last r ≡ true → reach τ w r < 2 ^ 64
-  unfolding reach
-  reach-under w (hold x a b) h e = go (both (ltb a τ) (leb τ b))
-    where
-      go : (t : Bool) → pick t (put w x) w < 2 ^ 64
-      go true = put-under 64 w x h (omega (arith, s .few, fits-hold count last x a b e .0))
-      go false = h
-  reach-under w (move v) h e = h
-
-  through-under : (w k : ℕ) → w < 2 ^ 64 → k ≤ row-count ns → through (reach τ) w (rows-upto ns k) < 2 ^ 64
-  unfolding through rows-upto
-  through-under w zero h l = h
-  through-under w (suc k) h l =
-      rw (through-more (reach τ) w ns k)
-      (reach-under (through (reach τ) w (rows-upto ns k)) (row-at ns k) (through-under w k h (omega arith)) (s .fit-at k l))
-
-  -- ---- the two sets are the same
+  -- what a set says of server k is known where k is one of some, or where no hold keeps the copy there up to τ
+  abbrev pub Known : ℕ → ℕ → Type 0
+  Known some k = (has some k ≡ true) ⊎ (any-below (row-count ns) (λ i. covers τ k (row-at ns i)) ≡ false)
 
   module _ (home : ℕ) (inside : home < count) where
     begun-is : begun home τ ≡ pick (eqb τ 0) (put 0 home) 0
     unfolding begun join
     begun-is = rw (lt-ltb home 64 (omega (arith, s .few)))
 
-    begun-under : pick (eqb τ 0) (put 0 home) 0 < 2 ^ 64
-    begun-under = go (eqb τ 0)
-      where
-        go : (t : Bool) → pick t (put 0 home) 0 < 2 ^ 64
-        go true = put-under 64 0 home (omega arith) (omega (arith, s .few))
-        go false = omega arith
-
-    pub before-is : before-transfers count home ns τ ≡ reached home (rows-of ns) τ
-    unfolding before-transfers reached rows-of row-count
-    before-is =
+    -- of those the search for some servers finds what all rows give
+    pub before-agrees : (some k : ℕ) → Known some k → has (gather ns τ some (begun home τ) count) k ≡ has (reached home (rows-of ns) τ) k
+    unfolding reached rows-of row-count
+    before-agrees some k known =
         rw begun-is
-        (same-members 64 _ _ (gather-under start count begun-under (s .few)) (through-under start (row-count ns) begun-under (omega arith))
-        (λ x l. gather-has ns τ start x count (s .few) ∙ sym (through-has τ start x ns (row-count ns) ∙ ap (either (has start x)) (same-cover x))))
+        (gather-has ns τ some (pick (eqb τ 0) (put 0 home) 0) k count (s .few)
+        ∙ ap (either (has (pick (eqb τ 0) (put 0 home) 0) k)) (go known)
+        ∙ sym (through-has τ (pick (eqb τ 0) (put 0 home) 0) k ns (row-count ns)))
       where
-        start : ℕ
-        start = pick (eqb τ 0) (put 0 home) 0
+        go : Known some k → both (ltb k count) (both (has some k) (reaches ns τ k)) ≡ any-below (row-count ns) (λ i. covers τ k (row-at ns i))
+        go (inl m) = rw m (sym (same-cover k))
+        go (inr u) = rw (not-found k u, u, both-none (has some k)) (both-none (ltb k count))

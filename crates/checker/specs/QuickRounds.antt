@@ -1,24 +1,22 @@
 -- For well-formed rows a pass over the rows of one second is a pass over all rows, and passes until nothing is added are `rounds`.
 use mathlib.Core.Bool.{Bool, true, false}
 use mathlib.Core.List.{List}
-use mathlib.Core.Logic.{_⊎_, inl, inr, _≢_}
+use mathlib.Core.Logic.{inl, inr, _≢_}
 use mathlib.Core.Path.{_≡_, refl, sym, ap, _∙_}
 use native.Mathlib.Omega.{arith}
 use Prim.Native.Nat.{ℕ, zero, suc, _+_, _-_, _*_, _≤_, _<_}
-use lib.Dec.{ltb, eqb}
+use lib.Dec.{eqb}
 use borrow.Author.Tests.{eqb-true, lt-ltb, ne-eqb}
-use Rattle.base.specs.Choice.{pick, both, le-or-lt}
-use Rattle.base.specs.Sets.{has, put}
-use Rattle.model.specs.Schedule.{Row, hold, move, Move, transfer}
-use Rattle.model.specs.Standing.{arrive, through, rounds, standing}
+use Rattle.base.specs.Choice.{pick, le-or-lt}
+use Rattle.model.specs.Schedule.{Row, hold, move, transfer}
+use Rattle.model.specs.Standing.{arrive, through, rounds}
 use Rattle.model.specs.RowForm.{row-at, rows-upto, rows-of, fits}
 use Rattle.model.specs.RowLaws.{fits-move}
 use Rattle.model.specs.Checking.{row-count}
 use Rattle.checker.specs.Search.{second-key, key, position}
 use Rattle.checker.specs.KeyLaws.{Shaped, position-within, before-position, from-position}
-use Rattle.checker.specs.Quick.{join, arrival, along, settle, second-pass, before-transfers, standing-at}
+use Rattle.checker.specs.Quick.{join, arrival, along, settle, first-of, number-of, second-pass}
 use Rattle.checker.specs.QuickSets.{through-more}
-use Rattle.checker.specs.QuickReach.{before-is}
 
 -- ---- a pass that adds nothing
 
@@ -29,7 +27,7 @@ rounds-still zero τ rows w e = refl
 rounds-still (suc n) τ rows w e = rw e (rounds-still n τ rows w e)
 
 -- so passes may stop there
-settle-rounds : (n τ : ℕ) (rows : List Row) (f : ℕ → ℕ) → ((w : ℕ) → f w ≡ through (arrive τ) w rows) → (w : ℕ) → settle n f w ≡ rounds n τ rows w
+pub settle-rounds : (n τ : ℕ) (rows : List Row) (f : ℕ → ℕ) → ((w : ℕ) → f w ≡ through (arrive τ) w rows) → (w : ℕ) → settle n f w ≡ rounds n τ rows w
 unfolding rounds settle
 settle-rounds zero τ rows f h w = refl
 settle-rounds (suc n) τ rows f h w = go (eqb (f w) w) refl (settle-rounds n τ rows f h (f w))
@@ -116,8 +114,8 @@ module _ (count last : ℕ) (ns : List ℕ) (s : Shaped count last ns) (τ w : �
       (arrival-is count last τ (upto (start + n)) (row-at ns (start + n)) (s .few) (s .fit-at (start + n) (omega arith)))
 
   -- all of it
-  pass-through : second-pass ns τ w ≡ through (arrive τ) w (rows-of ns)
-  unfolding second-pass rows-of row-count
+  pub pass-through : second-pass ns τ w ≡ through (arrive τ) w (rows-of ns)
+  unfolding second-pass first-of number-of rows-of row-count
   pass-through =
       let l = position-within count last ns s (second-key (suc τ)) in
       let e : start + (stop - start) ≡ stop = omega (arith, in-order) in
@@ -125,11 +123,3 @@ module _ (count last : ℕ) (ns : List ℕ) (s : Shaped count last ns) (τ w : �
       run (stop - start) (omega arith)
       ∙ ap upto e
       ∙ sym (ap upto (sym d) ∙ idle-run stop (row-count ns - stop) (λ i a b. later-row i a (omega arith)))
-
--- the servers where a copy stands at τ, by searches and by the rows of τ alone, are those that all rows give
-pub standing-is : (count last : ℕ) (ns : List ℕ) → Shaped count last ns → (home : ℕ) → home < count → (τ : ℕ)
-    → standing-at count home ns τ ≡ standing count home (rows-of ns) τ
-unfolding standing-at standing
-standing-is count last ns s home inside τ =
-    ap (settle count (second-pass ns τ)) (before-is count last ns s τ home inside)
-    ∙ settle-rounds count τ (rows-of ns) (second-pass ns τ) (pass-through count last ns s τ) _

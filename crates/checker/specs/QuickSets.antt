@@ -1,72 +1,31 @@
--- The set before the transfers of a second: a search for each server finds the hold that reaches it, if there is one.
-use mathlib.Core.Bool.{Bool, true, false, not}
+-- Membership in the sets that the code builds: the sources of some rows, the holds that a search finds, the holds of all rows.
+use mathlib.Core.Bool.{Bool, true, false}
 use mathlib.Core.List.{List, [], _∷_, _++_}
 use mathlib.Core.Logic.{_⊎_, inl, inr, _≢_}
-use mathlib.Core.Path.{_≡_, refl, sym, ap, ap₂, _∙_}
+use mathlib.Core.Path.{_≡_, refl, sym, ap, _∙_}
 use native.Mathlib.Omega.{arith}
-use Prim.Native.Nat.{ℕ, zero, suc, pred, _+_, _*_, _^_, _≤_, _<_}
+use Prim.Native.Nat.{ℕ, zero, suc, _+_, _≤_, _<_}
 use lib.Dec.{leb, ltb, eqb}
-use borrow.Author.Tests.{ltb-true, leb-true, eqb-true, eqb-false, eq-eqb, ne-eqb, lt-ltb, le-ltb, not-false, not-true}
-use Rattle.base.specs.Choice.{pick, both, either, le-or-lt, same-or-not, true-or-false, not-both}
+use borrow.Author.Tests.{eq-eqb, ne-eqb, lt-ltb, le-ltb}
+use Rattle.base.specs.Choice.{pick, both, either, le-or-lt, same-or-not}
 use Rattle.base.specs.Sets.{has, put}
-use Rattle.base.specs.SetLaws.{has-put, has-put-other, put-under, same-members}
-use Rattle.model.specs.BothLaws.{both-true}
-use Rattle.model.specs.Schedule.{Row, hold, move, Move, transfer}
-use Rattle.model.specs.Standing.{reach, through, reached}
-use Rattle.model.specs.RowForm.{row-at, rows-upto, rows-of, fits}
-use Rattle.model.specs.RowLaws.{fits-hold}
-use Rattle.model.specs.Checking.{row-count}
-use Rattle.checker.specs.Search.{hold-key, key, position}
-use Rattle.checker.specs.KeyLaws.{Shaped, end-key, keys-rise, position-within, before-position, from-position}
-use Rattle.checker.specs.Quick.{join, covers, reaches, with-hold, gather, begun, before-transfers}
+use Rattle.base.specs.SetLaws.{has-put, has-put-other}
+use Rattle.model.specs.Schedule.{Row, hold, move}
+use Rattle.model.specs.Standing.{reach, through}
+use Rattle.model.specs.RowForm.{row-at, rows-upto}
+use Rattle.checker.specs.Reading.{server-of}
+use Rattle.checker.specs.Quick.{join, covers, reaches, sources, with-hold, gather, any-below}
+use Rattle.checker.specs.AnyLaws.{either-last, either-none}
 
--- ---- tests
-
--- two tests are the same where each holds with the other
-pub same-test : (a b : Bool) → (a ≡ true → b ≡ true) → (b ≡ true → a ≡ true) → a ≡ b
-same-test true b f g = sym (f refl)
-same-test false true f g = g refl
-same-test false false f g = refl
-
-either-last : (a b : Bool) → b ≡ true → either a b ≡ true
-either-last true b e = refl
-either-last false b e = e
-
-either-none : (a : Bool) → either a false ≡ a
-either-none true = refl
-either-none false = refl
-
-both-none : (a : Bool) → both a false ≡ false
+-- both tests, where the second fails
+pub both-none : (a : Bool) → both a false ≡ false
 both-none true = refl
 both-none false = refl
-
--- some number below n passes a test
-unfoldable pub any-below : ℕ → (ℕ → Bool) → Bool
-any-below zero f = false
-any-below (suc n) f = either (any-below n f) (f n)
-
-pub any-is : (n : ℕ) (f : ℕ → Bool) → any-below n f ≡ true → (i : ℕ) × (i < n) × (f i ≡ true)
-unfolding any-below
-any-is zero f e = absurd (not-both e refl)
-any-is (suc n) f e = go (any-below n f) refl (any-is n f)
-  where
-    go : (b : Bool) → any-below n f ≡ b → (any-below n f ≡ true → (i : ℕ) × (i < n) × (f i ≡ true)) → (i : ℕ) × (i < suc n) × (f i ≡ true)
-    go true p r = let (i, l, h) = r p in (i, omega arith, h)
-    go false p r = (n, omega arith, rw (p, any-below) at e)
-
-pub any-of : (n : ℕ) (f : ℕ → Bool) (i : ℕ) → i < n → f i ≡ true → any-below n f ≡ true
-unfolding any-below
-any-of zero f i l e = absurd (omega arith)
-any-of (suc n) f i l e = go (le-or-lt n i) (any-of n f i)
-  where
-    go : (n ≤ i) ⊎ (i < n) → (i < n → f i ≡ true → any-below n f ≡ true) → either (any-below n f) (f n) ≡ true
-    go (inl h) r = let d : n ≡ i = omega arith in either-last (any-below n f) (f n) (rw d e)
-    go (inr h) r = rw (r h e)
 
 -- ---- a server put in by a test
 
 -- it is a member then, and nothing else changes
-put-has : (t : Bool) (w y x : ℕ) → has (pick t (put w y) w) x ≡ either (has w x) (both (eqb y x) t)
+pub put-has : (t : Bool) (w y x : ℕ) → has (pick t (put w y) w) x ≡ either (has w x) (both (eqb y x) t)
 put-has false w y x = sym (ap (either (has w x)) (both-none (eqb y x)) ∙ either-none (has w x))
 put-has true w y x = go (same-or-not y x)
   where
@@ -74,7 +33,31 @@ put-has true w y x = go (same-or-not y x)
     go (inl e) = rw (eq-eqb y x e, e) (has-put w x ∙ sym (either-last (has w x) true refl))
     go (inr d) = rw (ne-eqb y x d) (has-put-other w y x (λ e. d (sym e)) ∙ sym (either-none (has w x)))
 
--- ---- the set by all rows, one after the other
+-- ---- the sources of some rows
+
+-- one more server, which may be past a word's room
+join-keeps : (w x k : ℕ) → has w k ≡ true → has (join w x) k ≡ true
+unfolding join
+join-keeps w x k e = go (ltb x 64)
+  where
+    go : (t : Bool) → has (pick t (put w x) w) k ≡ true
+    go t = put-has t w x k ∙ rw e
+
+join-has : (w x : ℕ) → x < 64 → has (join w x) x ≡ true
+unfolding join
+join-has w x l = rw (lt-ltb x 64 l) (has-put w x)
+
+pub sources-has : (ns : List ℕ) (from n j x : ℕ) → j < n → server-of (row-at ns (from + j)) ≡ x → x < 64 → has (sources ns from n) x ≡ true
+unfolding sources
+sources-has ns from zero j x l e h = absurd (omega arith)
+sources-has ns from (suc n) j x l e h = go (same-or-not j n) (sources-has ns from n j x)
+  where
+    go : (j ≡ n) ⊎ (j ≢ n) → (j < n → server-of (row-at ns (from + j)) ≡ x → x < 64 → has (sources ns from n) x ≡ true)
+        → has (join (sources ns from n) (server-of (row-at ns (from + n)))) x ≡ true
+    go (inl d) r = rw (← d, e) (join-has (sources ns from j) x h)
+    go (inr d) r = join-keeps (sources ns from n) (server-of (row-at ns (from + n))) x (r (omega arith) e h)
+
+-- ---- the holds of all rows, one after the other
 
 -- a step for each of some rows, and then for one more
 through-append : (f : ℕ → Row → ℕ) (w : ℕ) (xs ys : List Row) → through f w (xs ++ ys) ≡ through f (through f w xs) ys
@@ -107,7 +90,7 @@ through-has τ w x ns (suc k) =
     ∙ ap (λ (t : Bool). either t (covers τ x (row-at ns k))) (through-has τ w x ns k)
     ∙ either-assoc (has w x) (any-below k (λ i. covers τ x (row-at ns i))) (covers τ x (row-at ns k))
 
--- ---- the set by a search for each server
+-- ---- a search for each server of some
 
 -- a member below suc n is one below n, or n
 next-has : (n x : ℕ) (t w : Bool) (f : ℕ → Bool) → t ≡ either w (both (ltb x n) (f x))
@@ -122,10 +105,11 @@ next-has n x t w f r = go (le-or-lt n x)
     go (inl l) = at (same-or-not n x) l
     go (inr l) = rw (r, lt-ltb x n l, ne-eqb n x (λ e. omega arith), lt-ltb x (suc n) (omega arith)) (either-none (either w (f x)))
 
-pub gather-has : (ns : List ℕ) (τ w x n : ℕ) → n ≤ 64 → has (gather ns τ w n) x ≡ either (has w x) (both (ltb x n) (reaches ns τ x))
+pub gather-has : (ns : List ℕ) (τ some w x n : ℕ) → n ≤ 64
+    → has (gather ns τ some w n) x ≡ either (has w x) (both (ltb x n) (both (has some x) (reaches ns τ x)))
 unfolding gather with-hold join
-gather-has ns τ w x zero h = rw (le-ltb x 0 (omega arith)) (sym (either-none (has w x)))
-gather-has ns τ w x (suc n) h =
+gather-has ns τ some w x zero h = rw (le-ltb x 0 (omega arith)) (sym (either-none (has w x)))
+gather-has ns τ some w x (suc n) h =
     rw (lt-ltb n 64 h)
-    (put-has (reaches ns τ n) (gather ns τ w n) n x
-    ∙ next-has n x (has (gather ns τ w n) x) (has w x) (reaches ns τ) (gather-has ns τ w x n (omega arith)))
+    (put-has (both (has some n) (reaches ns τ n)) (gather ns τ some w n) n x
+    ∙ next-has n x (has (gather ns τ some w n) x) (has w x) (λ k. both (has some k) (reaches ns τ k)) (gather-has ns τ some w x n (omega arith)))

@@ -2,29 +2,23 @@
 use mathlib.Core.Bool.{Bool, true, false, not}
 use mathlib.Core.List.{List, [], _∷_}
 use mathlib.Core.Logic.{_≢_}
-use mathlib.Core.Path.{_≡_, refl, sym, ap, _∙_}
+use mathlib.Core.Path.{_≡_, refl, sym}
 use native.Mathlib.Omega.{arith}
-use native.Mathlib.Numerals.{add-one}
-use Prim.Native.Nat.{ℕ, zero, suc, pred, _+_, _-_, _*_, _≤_, _<_}
+use Prim.Native.Nat.{ℕ, zero, suc, _+_, _-_, _≤_, _<_}
 use lib.Dec.{eqb, ltb}
-use lib.ListN.{getD}
 use borrow.Author.Tests.{eq-eqb, ne-eqb, lt-ltb}
 use Rattle.base.specs.Choice.{pick, either}
-use Rattle.base.specs.Refusals.{Condition, refuse, first, each, or-else}
-use Rattle.base.specs.RefusalLaws.{from, from-first, each-refused}
-use Rattle.base.specs.declared.Refusal.{Refusal}
+use Rattle.base.specs.Refusals.{refuse, first, each, or-else}
+use Rattle.base.specs.RefusalLaws.{from, from-first}
 use Rattle.base.specs.declared.Verdict.{Verdict}
 use Rattle.base.specs.declared.Verdict.the-variants.{Passed, Refused}
-use Rattle.base.specs.Sets.{has}
-use Rattle.base.specs.Bytes.{le16, le32}
-use Rattle.log.specs.Fields.{server-count, home-of, request-count}
-use Rattle.log.specs.ConditionLaws.{each-more}
-use Rattle.model.specs.RowForm.{row-of, row-at, fits, follows}
-use Rattle.model.specs.Checking.{row-count, misplaced}
+use Rattle.model.specs.RowForm.{row-at, fits, follows}
+use Rattle.model.specs.Checking.{misplaced}
 use Rattle.checker.specs.declared.Quad.{Quad}
-use Rattle.checker.specs.Reading.{quad-at, as-row, server-of, second-of}
+use Rattle.checker.specs.Reading.{quad-at, as-row}
+use Rattle.checker.specs.ReadingLaws.{server-read}
 use Rattle.checker.specs.Search.{hold-key, second-key, position}
-use Rattle.checker.specs.Quick.{covers, reaches, arrival, along, settle, second-pass, standing-at, row-tests, copy-test, copy-tests-from, serve-test}
+use Rattle.checker.specs.Quick.{join, covers, reaches, sources, gather, begun, arrival, along, settle, first-of, number-of, before-transfers, second-pass, standing-at, row-tests, served, serve-test}
 
 -- one more row of a second
 pub along-more : (ns : List ℕ) (t from start i w v : ℕ) (r : Quad) → from ≤ i → w ≡ along ns t from start (i - from)
@@ -35,11 +29,21 @@ along-more ns t from start i w v r h e d p =
     let m : from + (i - from) ≡ i = omega arith in
     rw (n, m, ← e) (rw d at p)
 
--- the rows between the first of second t and the first after it
-pub pass-is : (ns : List ℕ) (t from to w v : ℕ) → from ≡ position ns (second-key t) → to ≡ position ns (second-key (suc t))
-    → v ≡ along ns t from w (to - from) → second-pass ns t w ≡ v
-unfolding second-pass
-pass-is ns t from to w v p q e = rw (← p, ← q) (sym e)
+-- one more of their sources
+pub source-more : (ns : List ℕ) (from i w v : ℕ) (r : Quad) → from ≤ i → w ≡ sources ns from (i - from)
+    → r ≡ quad-at ns i → v ≡ join w (r .a) → v ≡ sources ns from (i + 1 - from)
+unfolding sources quad-at row-at
+source-more ns from i w v r h e d p =
+    let n : i + 1 - from ≡ suc (i - from) = omega arith in
+    let m : from + (i - from) ≡ i = omega arith in
+    rw (n, m, ← e, server-read) (rw d at p)
+
+-- the set at a second, from its parts
+pub standing-read : (count home : ℕ) (ns : List ℕ) (t from to some start w v : ℕ) → from ≡ position ns (second-key t)
+    → to ≡ position ns (second-key (suc t)) → some ≡ sources ns from (to - from) → start ≡ begun home t → w ≡ gather ns t some start count
+    → v ≡ settle count (λ w. along ns t from w (to - from)) w → v ≡ standing-at count home ns t
+unfolding standing-at before-transfers second-pass first-of number-of
+standing-read count home ns t from to some start w v p q m s g e = simp (g, m, s, p, q) at e
 
 -- a pass that adds nothing ends it; one that adds something is one of those that are left
 pub settle-stop : (f : ℕ → ℕ) (left w : ℕ) → 0 < left → f w ≡ w → settle left f w ≡ w
@@ -85,51 +89,12 @@ row-found count n last ns i p r m d q e = rw (d, e, q) (sym (from-first (row-tes
 abbrev pub unless : Bool → ℕ → ℕ → Verdict
 unless b number place = pick b Passed (Refused (record { number = number; place = place }))
 
-alone : (b : Bool) (number place : ℕ) → first (refuse number place (not b) ∷ []) ≡ unless b number place
+pub alone : (b : Bool) (number place : ℕ) → first (refuse number place (not b) ∷ []) ≡ unless b number place
 unfolding first
 alone true number place = refl
 alone false number place = refl
 
--- the first of a row's numbers after its kind is the server where it begins or leaves
-server-read : (k a b c : ℕ) → server-of (row-of k a b c) ≡ a
-unfolding row-of server-of
-server-read k a b c = go (eqb k 0) refl
-  where
-    go : (t : Bool) → eqb k 0 ≡ t → server-of (row-of k a b c) ≡ a
-    go true e = rw e
-    go false e = rw e
-
--- 17 for a row, by the numbers that were read and the set at its second
-pub copy-found : (count home : ℕ) (ns : List ℕ) (i t w : ℕ) (r : Quad) (b : Bool) → r ≡ quad-at ns i → t ≡ second-of (as-row r)
-    → w ≡ standing-at count home ns t → b ≡ has w (r .a) → first (copy-test count home ns i) ≡ unless b 17 (suc i)
-unfolding copy-test quad-at row-at
-copy-found count home ns i t w r b d p q e =
-    let same : has (standing-at count home ns (second-of (row-at ns i))) (server-of (row-at ns i)) ≡ b = rw (server-read _ _ _ _) (sym (rw (q, p, d) at e)) in
-    rw same (alone b 17 (suc i))
-
--- 17 for each row from one on: the first at fault decides
-module _ (count home : ℕ) (ns : List ℕ) (from : ℕ) where
-  -- 17 for row from + j
-  abbrev pub copy-test-on : ℕ → List Condition
-  copy-test-on j = copy-test count home ns (from + j)
-
-  pub copies-refused : (rows i : ℕ) (r : Refusal) → rows ≡ row-count ns → from ≤ i → i < rows → first (each copy-test-on (i - from)) ≡ Passed
-      → first (copy-test count home ns i) ≡ Refused r → first (copy-tests-from count home ns from) ≡ Refused r
-  unfolding copy-tests-from
-  copies-refused rows i r d h l p q =
-      let m : from + (i - from) ≡ i = omega arith in
-      each-refused copy-test-on (i - from) (row-count ns - from) r (omega arith) p (rw m q)
-
-  pub copies-more : (i : ℕ) → from ≤ i → first (each copy-test-on (i - from)) ≡ Passed → first (copy-test count home ns i) ≡ Passed
-      → first (each copy-test-on (i + 1 - from)) ≡ Passed
-  copies-more i h p q =
-      let m : from + (i - from) ≡ i = omega arith in
-      let n : i + 1 - from ≡ suc (i - from) = omega arith in
-      rw n (each-more copy-test-on (i - from) p (rw m q))
-
 -- 18 for a request
-pub serve-found : (log ns : List ℕ) (i : ℕ) (b : Bool)
-    → b ≡ has (standing-at (server-count log) (home-of log) ns (le32 log (40 + 6 * i))) (le16 log (44 + 6 * i))
-    → first (serve-test log ns i) ≡ unless b 18 (suc i)
+pub serve-found : (log ns : List ℕ) (i : ℕ) (b : Bool) → b ≡ served log ns i → first (serve-test log ns i) ≡ unless b 18 (suc i)
 unfolding serve-test
 serve-found log ns i b e = rw (← e) (alone b 18 (suc i))

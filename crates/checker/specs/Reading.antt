@@ -23,3 +23,8 @@ server-of (move (transfer y x τ)) = y
 unfoldable pub second-of : Row → ℕ
 second-of (hold x a b) = a
 second-of (move (transfer y x τ)) = τ
+
+-- where a transfer arrives; of a hold, its third number
+unfoldable pub target-of : Row → ℕ
+target-of (hold x a b) = a
+target-of (move (transfer y x τ)) = x

@@ -10,9 +10,10 @@ use borrow.Author.Tests.{lt-ltb, le-ltb}
 use Rattle.base.specs.Choice.{pick, le-or-lt, true-or-false, not-both}
 use Rattle.base.specs.LowestLaws.{Lowest}
 use Rattle.model.specs.RowForm.{row-at}
+use Rattle.model.specs.Checking.{row-count}
 use Rattle.checker.specs.declared.Quad.{Quad}
 use Rattle.checker.specs.Reading.{quad-at, as-row}
-use Rattle.checker.specs.Search.{key, middle, halve, from-on}
+use Rattle.checker.specs.Search.{key, middle, halve, from-on, position}
 
 -- is row i at place k or later, by the numbers that were read
 pub from-on-read : (ns : List ℕ) (k i n : ℕ) (r : Quad) → r ≡ quad-at ns i → n ≡ key (as-row r) → from-on ns k i ≡ leb k n
@@ -77,6 +78,24 @@ module _ (f : ℕ → Bool) where
   unfolding halve
   halve-end lo hi h = let e : hi - lo ≡ 0 = omega arith in rw e
 
+  -- the answer is not past the span
+  pub halve-within : (n lo hi : ℕ) → lo ≤ hi → halve n f lo hi ≤ hi
+  unfolding halve
+  halve-within zero lo hi l = l
+  halve-within (suc n) lo hi l = go (le-or-lt hi lo) (f (middle lo hi)) (halve-within n lo (middle lo hi)) (halve-within n (suc (middle lo hi)) hi)
+    where
+      by : (b : Bool) → lo ≤ middle lo hi → middle lo hi < hi → (lo ≤ middle lo hi → halve n f lo (middle lo hi) ≤ middle lo hi)
+          → (suc (middle lo hi) ≤ hi → halve n f (suc (middle lo hi)) hi ≤ hi)
+          → pick b (halve n f lo (middle lo hi)) (halve n f (suc (middle lo hi)) hi) ≤ hi
+      by true u v p q = omega (arith, p u)
+      by false u v p q = q v
+
+      go : (hi ≤ lo) ⊎ (lo < hi) → (b : Bool) → (lo ≤ middle lo hi → halve n f lo (middle lo hi) ≤ middle lo hi)
+          → (suc (middle lo hi) ≤ hi → halve n f (suc (middle lo hi)) hi ≤ hi)
+          → pick (ltb lo hi) (pick b (halve n f lo (middle lo hi)) (halve n f (suc (middle lo hi)) hi)) lo ≤ hi
+      go (inl h) b p q = rw (le-ltb lo hi h) l
+      go (inr h) b p q = rw (lt-ltb lo hi h) (by b (middle-in lo hi h .0) (middle-in lo hi h .1) p q)
+
   -- the answer is the lowest number below the end that passes, where from one that passes on all do
   module _ (end : ℕ) (stay : (i j : ℕ) → i ≤ j → j < end → f i ≡ true → f j ≡ true) where
     pub halve-lowest : (n lo hi : ℕ) → hi - lo ≤ n → lo ≤ hi → hi ≤ end → ((j : ℕ) → j < lo → f j ≡ false) → (hi < end → f hi ≡ true)
@@ -111,3 +130,8 @@ module _ (f : ℕ → Bool) where
             → Lowest end f (halve (suc n) f lo hi)
         go (inl h) r q = rw (le-ltb lo hi h) (done h)
         go (inr h) r q = rw (lt-ltb lo hi h) (by (f (middle lo hi)) refl (middle-in lo hi h .0) (middle-in lo hi h .1) r q)
+
+-- what a search finds is not past the rows
+pub position-most : (ns : List ℕ) (k : ℕ) → position ns k ≤ row-count ns
+unfolding position
+position-most ns k = halve-within (from-on ns k) (row-count ns) 0 (row-count ns) (omega arith)

@@ -1,25 +1,23 @@
 // The conditions 14 to 18 on the numbers of a schedule, in 01's order.
 ghost use mathlib.Core.Path.{_≡_};
 ghost use mathlib.Core.Bool.{not};
-ghost use Prim.Native.Nat.{suc, _+_, _*_, _/_, _<_, _≤_};
+ghost use Prim.Native.Nat.{suc, _+_, _*_, _/_, _<_};
 ghost use lib.Dec.{ltb, eqb};
-ghost use lib.ListN.{length};
 ghost use Rattle.base.specs.Choice.{either};
-ghost use Rattle.base.specs.Bytes.{le16, le32};
 ghost use Rattle.base.specs.Refusals.{first, each};
-ghost use Rattle.base.specs.Sets.{has};
-ghost use Rattle.log.specs.Fields.{server-count, home-of, request-count};
+ghost use Rattle.log.specs.Fields.{request-count};
 ghost use Rattle.model.specs.RowForm.{fits};
 ghost use Rattle.model.specs.LogRequests.{requests-in};
 ghost use Rattle.model.specs.Checking.{row-count, misplaced};
 ghost use Rattle.checker.specs.Reading.{as-row};
-ghost use Rattle.checker.specs.Quick.{standing-at, row-tests, copy-tests-from, serve-test, schedule-tests};
+ghost use Rattle.checker.specs.Quick.{stands-at, served, row-tests, serve-test, schedule-tests};
 use crate::Quad;
+use crate::copies::copies_fault;
 use crate::rows::fits;
 use crate::rows::follows;
 use crate::rows::row;
-use crate::rows::second;
 use crate::standing::member;
+use crate::standing::reaches;
 use crate::standing::standing;
 use base::Refusal;
 use base::Verdict;
@@ -27,12 +25,6 @@ use base::bytes::at;
 use base::bytes::at16;
 use base::bytes::at32;
 use base::refusals::or_else;
-
-// The set at a second.
-struct Seen {
-    second: u32,
-    word: u64,
-}
 
 fn size(x: u16) -> usize
     ensures { λ r. ⌜ (r ≡ x) × (r < 65536) ⌝ }
@@ -109,51 +101,30 @@ fn rows_fault(ns: &[u32], count: u32, n: u16, last: u32) -> Verdict
     Verdict::Passed
 }
 
-// The set at second t, where it may be known.
-fn seen_at(ns: &[u32], count: u32, home: u32, seen: Seen, t: u32) -> Seen
-    requires { ⌜ seen .word ≡ standing-at count home (now ns) (seen .second) ⌝ }
-    ensures { λ r. ⌜ (r .second ≡ t) × (r .word ≡ standing-at count home (now (ns .entry)) t) ⌝ }
+// Does a copy stand at server x at second t?
+fn stands(ns: &[u32], count: u32, home: u32, t: u32, x: u32) -> bool
+    ensures { λ r. ⌜ r ≡ stands-at count home (now (ns .entry)) t x ⌝ }
 {
-    if seen.second == t {
-        return seen;
+    if reaches(ns, t, x) {
+        return true;
     }
-    Seen {
-        second: t,
-        word: standing(ns, count, home, t),
-    }
+    member(standing(ns, count, home, t), x)
 }
 
-// 17 for each row from one on.
-fn copies_from(ns: &[u32], count: u32, home: u32, from: usize) -> Verdict
-    ensures { λ r. ⌜ r ≡ first (copy-tests-from count home (now (ns .entry)) from) ⌝ }
-{
-    let rows = ns.len() / 4;
-    let mut seen = Seen {
-        second: 0,
-        word: standing(ns, count, home, 0),
-    };
-    let mut i = from;
-    while i < rows {
-        let r = row(ns, i);
-        seen = seen_at(ns, count, home, seen, second(r));
-        if !member(seen.word, r.a) {
-            return Verdict::Refused(Refusal {
-                number: 17,
-                place: place(i),
-            });
-        }
-        i += 1;
-    }
-    Verdict::Passed
-}
-
-// Does a copy stand at request i + 1?
+// Does one stand at request i + 1?
 fn served(log: &[u8], ns: &[u32], i: u16) -> bool
-    ensures { λ r. ⌜ r ≡ has (standing-at (server-count (now (log .entry))) (home-of (now (log .entry))) (now (ns .entry)) (le32 (now (log .entry)) (40 + 6 * i))) (le16 (now (log .entry)) (44 + 6 * i)) ⌝ }
+    ensures { λ r. ⌜ r ≡ served (now (log .entry)) (now (ns .entry)) i ⌝ }
 {
     let k = 6 * size(i);
-    let w = standing(ns, word8(at(log, 3)), word8(at(log, 4)), at32(log, 40 + k));
-    member(w, word16(at16(log, 44 + k)))
+    let second = at32(log, 40 + k);
+    let server = at16(log, 44 + k);
+    stands(
+        ns,
+        word8(at(log, 3)),
+        word8(at(log, 4)),
+        second,
+        word16(server),
+    )
 }
 
 // 18 for each request.
@@ -200,7 +171,7 @@ pub fn schedule_fault(log: &[u8], ns: &[u32]) -> Verdict
     if let Verdict::Refused(r) = v {
         return Verdict::Refused(r);
     }
-    let v = copies_from(ns, count, word8(at(log, 4)), 0);
+    let v = copies_fault(ns, count, word8(at(log, 4)));
     if let Verdict::Refused(r) = v {
         return Verdict::Refused(r);
     }

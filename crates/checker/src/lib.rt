@@ -1,6 +1,7 @@
 // The schedule checker.
 mod answer;
 mod conditions;
+mod copies;
 mod rows;
 mod search;
 mod standing;

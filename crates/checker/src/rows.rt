@@ -73,7 +73,7 @@ fn transfer_fits(count: u32, last: u32, r: Quad) -> bool
     if r.a == r.b {
         return false;
     }
-    r.c <= last
+    last >= r.c
 }
 
 // A row that fits.

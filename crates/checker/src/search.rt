@@ -1,7 +1,6 @@
 // The first row from a place on, by halving.
 ghost use mathlib.Core.Path.{_≡_};
 ghost use Prim.Native.Nat.{suc, _+_, _*_, _^_, _<_};
-ghost use lib.ListN.{length};
 ghost use Rattle.base.specs.Choice.{pick};
 ghost use Rattle.checker.specs.Reading.{as-row};
 ghost use Rattle.checker.specs.Search.{key, hold-key, second-key, middle, from-on, position};

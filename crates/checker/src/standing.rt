@@ -1,9 +1,9 @@
 // The servers where a copy stands at a second, as a set in a word.
 ghost use mathlib.Core.Path.{_≡_};
-ghost use Prim.Native.Nat.{suc, _+_, _-_};
+ghost use Prim.Native.Nat.{_+_, _-_};
 ghost use Rattle.base.specs.Sets.{has};
 ghost use Rattle.checker.specs.Reading.{as-row};
-ghost use Rattle.checker.specs.Quick.{join, covers, reaches, with-hold, gather, begun, before-transfers, arrival, along, settle, second-pass, standing-at};
+ghost use Rattle.checker.specs.Quick.{join, covers, reaches, sources, with-hold, gather, begun, arrival, along, settle, standing-at};
 use crate::Quad;
 use crate::rows::row;
 use crate::search::after_holds;
@@ -47,7 +47,7 @@ fn covers(t: u32, x: u32, r: Quad) -> bool
 }
 
 // Does the last hold of server x that began before second t reach it?
-fn reaches(ns: &[u32], t: u32, x: u32) -> bool
+pub fn reaches(ns: &[u32], t: u32, x: u32) -> bool
     ensures { λ r. ⌜ r ≡ reaches (now (ns .entry)) t x ⌝ }
 {
     let p = after_holds(ns, x, t);
@@ -57,12 +57,28 @@ fn reaches(ns: &[u32], t: u32, x: u32) -> bool
     covers(t, x, row(ns, p - 1))
 }
 
-// The set with server x, where a hold keeps the copy there up to second t.
-fn with_hold(ns: &[u32], t: u32, w: u64, x: u32) -> u64
-    ensures { λ r. ⌜ r ≡ with-hold (now (ns .entry)) t w x ⌝ }
+// The set with server x of some, where a hold keeps the copy there up to second t.
+fn with_hold(ns: &[u32], t: u32, some: u64, w: u64, x: u32) -> u64
+    ensures { λ r. ⌜ r ≡ with-hold (now (ns .entry)) t some w x ⌝ }
 {
-    if reaches(ns, t, x) {
-        return join(w, x);
+    if member(some, x) {
+        if reaches(ns, t, x) {
+            return join(w, x);
+        }
+        return w;
+    }
+    w
+}
+
+// With all of them below the count.
+fn gather(ns: &[u32], t: u32, some: u64, start: u64, count: u32) -> u64
+    ensures { λ r. ⌜ r ≡ gather (now (ns .entry)) t some start count ⌝ }
+{
+    let mut w = start;
+    let mut x: u32 = 0;
+    while x < count {
+        w = with_hold(ns, t, some, w, x);
+        x += 1;
     }
     w
 }
@@ -77,15 +93,15 @@ fn start(home: u32, t: u32) -> u64
     0
 }
 
-// The set at second t before its transfers.
-fn before_transfers(ns: &[u32], count: u32, home: u32, t: u32) -> u64
-    ensures { λ r. ⌜ r ≡ before-transfers count home (now (ns .entry)) t ⌝ }
+// The servers where the rows from one on up to another begin or leave.
+fn sources(ns: &[u32], from: usize, to: usize) -> u64
+    ensures { λ r. ⌜ r ≡ sources (now (ns .entry)) from (to - from) ⌝ }
 {
-    let mut w = start(home, t);
-    let mut x: u32 = 0;
-    while x < count {
-        w = with_hold(ns, t, w, x);
-        x += 1;
+    let mut w: u64 = 0;
+    let mut i = from;
+    while i < to {
+        w = join(w, row(ns, i).a);
+        i += 1;
     }
     w
 }
@@ -119,12 +135,10 @@ fn along(ns: &[u32], t: u32, from: usize, to: usize, start: u64) -> u64
     w
 }
 
-// The transfers of second t, until they add nothing, but at most `count` times.
-fn settle(ns: &[u32], t: u32, count: u32, start: u64) -> u64
-    ensures { λ r. ⌜ r ≡ settle count (second-pass (now (ns .entry)) t) start ⌝ }
+// The rows from one on up to another, until they add nothing, but at most `count` times.
+fn settle(ns: &[u32], t: u32, from: usize, to: usize, count: u32, start: u64) -> u64
+    ensures { λ r. ⌜ r ≡ settle count (λ w. along (now (ns .entry)) t from w (to - from)) start ⌝ }
 {
-    let from = from_second(ns, t);
-    let to = after_second(ns, t);
     let mut w = start;
     let mut left = count;
     while 0 < left {
@@ -138,9 +152,12 @@ fn settle(ns: &[u32], t: u32, count: u32, start: u64) -> u64
     w
 }
 
-// The servers where a copy stands at second t.
+// Where a copy stands at second t, of the sources of its transfers and of the servers that no hold keeps up to t.
 pub fn standing(ns: &[u32], count: u32, home: u32, t: u32) -> u64
     ensures { λ r. ⌜ r ≡ standing-at count home (now (ns .entry)) t ⌝ }
 {
-    settle(ns, t, count, before_transfers(ns, count, home, t))
+    let from = from_second(ns, t);
+    let to = after_second(ns, t);
+    let w = gather(ns, t, sources(ns, from, to), start(home, t), count);
+    settle(ns, t, from, to, count, w)
 }

@@ -10,7 +10,7 @@ use Rattle.checker.proofs.conditions.schedule_fault.Reads as reads
 use Rattle.checker.proofs.conditions.schedule_fault.Lts as lts
 use Rattle.base.proofs.bytes.at.Reads as at-reads
 use Rattle.base.proofs.bytes.at16.Reads as at16-reads
-use Rattle.checker.proofs.conditions.copies_from.Reads as copies-from-reads
+use Rattle.checker.proofs.copies.copies_fault.Reads as copies-fault-reads
 use Rattle.checker.proofs.conditions.last_second.Reads as last-second-reads
 use Rattle.checker.proofs.conditions.requests_fault.Reads as requests-fault-reads
 use Rattle.checker.proofs.conditions.rows_fault.Reads as rows-fault-reads
@@ -71,8 +71,8 @@ word8-requires-2 : tie.Need-word8-requires-2
 word8-requires-2 c κs = search needs
 
 -- src/conditions.rt:204:9
-copies-from-requires : tie.Need-copies-from-requires
-copies-from-requires c κs = search needs
+copies-fault-requires : tie.Need-copies-fault-requires
+copies-fault-requires c κs = search needs
 
 -- src/conditions.rt:205:29
 enum-known-v-2 : tie.Need-enum-known-v-2
@@ -89,7 +89,7 @@ returns-3 c =
       eq-eqb _ _ (c .before .before .before .before .before .before .before .before .before .before .before .before .before .if1 .left),
       row-part-read (a .log .now) (a .ns .now) _ _ _ _ count (c .before .before .before .before .before .before .before .before .before .before .at16 .ensures) (c .before .before .before .before .before .before .before .before .before .last-second .ensures) (c .before .before .before .before .before .before .before .before .rows-fault .ensures),
       c .before .before .before .before .before .before .enum-told .given .1,
-      copy-part-read (a .log .now) (a .ns .now) _ _ _ count (c .before .before .before .before .word82 .ensures ∙ c .before .before .before .before .before .at2 .ensures) (c .before .before .before .copies-from .ensures),
+      copy-part-read (a .log .now) (a .ns .now) _ _ _ count (c .before .before .before .before .word82 .ensures ∙ c .before .before .before .before .before .at2 .ensures) (c .before .before .before .copies-fault .ensures),
       c .before .v2 .given .1,
     )
 
@@ -111,7 +111,7 @@ returns-4 c =
       eq-eqb _ _ (c .before .before .before .before .before .before .before .before .before .before .before .before .before .if1 .left),
       row-part-read (a .log .now) (a .ns .now) _ _ _ _ count (c .before .before .before .before .before .before .before .before .before .before .at16 .ensures) (c .before .before .before .before .before .before .before .before .before .last-second .ensures) (c .before .before .before .before .before .before .before .before .rows-fault .ensures),
       c .before .before .before .before .before .before .enum-told .given .1,
-      copy-part-read (a .log .now) (a .ns .now) _ _ _ count (c .before .before .before .before .word82 .ensures ∙ c .before .before .before .before .before .at2 .ensures) (c .before .before .before .copies-from .ensures),
+      copy-part-read (a .log .now) (a .ns .now) _ _ _ count (c .before .before .before .before .word82 .ensures ∙ c .before .before .before .before .before .at2 .ensures) (c .before .before .before .copies-fault .ensures),
       c .before .enum-told2 .given .1,
     )
     (c .requests-fault .ensures)
@@ -131,7 +131,7 @@ schedule-fault-spec =
     enum-told
     at-requires-2
     word8-requires-2
-    copies-from-requires
+    copies-fault-requires
     enum-known-v-2
     returns-3
     enum-told-2

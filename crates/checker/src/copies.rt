@@ -1,0 +1,227 @@
+// 17: rows with no copy where they begin or leave.
+ghost use mathlib.Core.Path.{_≡_};
+ghost use mathlib.Core.Bool.{not};
+ghost use Prim.Native.Nat.{suc, _+_, _-_, _<_, _≤_};
+ghost use lib.Dec.{eqb};
+ghost use Rattle.base.specs.Choice.{pick, either, both};
+ghost use Rattle.base.specs.Sets.{has};
+ghost use Rattle.base.specs.Refusals.{first, each};
+ghost use Rattle.model.specs.RowForm.{row-at};
+ghost use Rattle.model.specs.Checking.{row-count};
+ghost use Rattle.checker.specs.Reading.{as-row, server-of, second-of};
+ghost use Rattle.checker.specs.Quick.{standing-at, any-below, aims, fed, starts, unfed, lower, starved, unbacked, hold-test, transfer-test, copy-tests};
+use crate::Quad;
+use crate::rows::row;
+use crate::rows::second;
+use crate::search::after_holds;
+use crate::search::after_second;
+use crate::search::from_second;
+use crate::standing::member;
+use crate::standing::standing;
+use base::Refusal;
+use base::Verdict;
+
+// The set at a second.
+struct Seen {
+    second: u32,
+    word: u64,
+}
+
+// The first hold and the first transfer with no copy; past the last row where there is none.
+struct Faults {
+    hold: usize,
+    transfer: usize,
+}
+
+// Rows are counted from 1.
+fn place(i: usize) -> u64
+    requires { ⌜ i < 4611686018427387904 ⌝ }
+    ensures { λ r. ⌜ r ≡ suc i ⌝ }
+{
+    i as u64 + 1
+}
+
+// The set at second t, where it may be known.
+fn seen_at(ns: &[u32], count: u32, home: u32, seen: Seen, t: u32) -> Seen
+    requires { ⌜ seen .word ≡ standing-at count home (now ns) (seen .second) ⌝ }
+    ensures { λ r. ⌜ (r .second ≡ t) × (r .word ≡ standing-at count home (now (ns .entry)) t) ⌝ }
+{
+    if seen.second == t {
+        return seen;
+    }
+    Seen {
+        second: t,
+        word: standing(ns, count, home, t),
+    }
+}
+
+// Is the row a transfer to server x?
+fn aims(x: u32, r: Quad) -> bool
+    ensures { λ s. ⌜ s ≡ aims x (as-row r) ⌝ }
+{
+    if r.kind == 0 {
+        return false;
+    }
+    r.b == x
+}
+
+// Is one of the rows from one on up to another a transfer to server x?
+fn aimed(ns: &[u32], from: usize, to: usize, x: u32) -> bool
+    ensures { λ r. ⌜ r ≡ any-below (to - from) (λ j. aims x (row-at (now (ns .entry)) (from + j))) ⌝ }
+{
+    let mut i = from;
+    while i < to {
+        if aims(x, row(ns, i)) {
+            return true;
+        }
+        i += 1;
+    }
+    false
+}
+
+// Is this home at second 0?
+fn begins(home: u32, t: u32, x: u32) -> bool
+    ensures { λ r. ⌜ r ≡ both (eqb t 0) (eqb x home) ⌝ }
+{
+    if t == 0 {
+        return x == home;
+    }
+    false
+}
+
+// May a copy come to server x at second t?
+fn fed(ns: &[u32], home: u32, t: u32, x: u32) -> bool
+    ensures { λ r. ⌜ r ≡ fed home (now (ns .entry)) t x ⌝ }
+{
+    if begins(home, t, x) {
+        return true;
+    }
+    aimed(ns, from_second(ns, t), after_second(ns, t), x)
+}
+
+// Is the row a hold of server x that begins at second t?
+fn starts(t: u32, x: u32, r: Quad) -> bool
+    ensures { λ s. ⌜ s ≡ starts t x (as-row r) ⌝ }
+{
+    if r.kind != 0 {
+        return false;
+    }
+    if r.a != x {
+        return false;
+    }
+    r.b == t
+}
+
+// The hold at server x from second t on, if the set at t has not x; past the last row where there is none.
+fn unfed(ns: &[u32], w: u64, t: u32, x: u32) -> usize
+    ensures { λ r. ⌜ r ≡ unfed (now (ns .entry)) w t x ⌝ }
+{
+    if member(w, x) {
+        return ns.len() / 4;
+    }
+    let p = after_holds(ns, x, t);
+    if starts(t, x, row(ns, p)) {
+        return p;
+    }
+    ns.len() / 4
+}
+
+fn lower(a: usize, b: usize) -> usize
+    ensures { λ r. ⌜ r ≡ lower a b ⌝ }
+{
+    if a < b {
+        return a;
+    }
+    b
+}
+
+// Row i, if the set has not its source y; past the last row otherwise.
+fn unbacked(ns: &[u32], w: u64, y: u32, i: usize) -> usize
+    ensures { λ r. ⌜ r ≡ pick (has w y) (row-count (now (ns .entry))) i ⌝ }
+{
+    if member(w, y) {
+        return ns.len() / 4;
+    }
+    i
+}
+
+// One pass over the transfers from one on: the first hold to which they bring no copy, and the first of them with no copy at its source.
+fn scan(ns: &[u32], count: u32, home: u32, from: usize) -> Faults
+    ensures { λ r. ⌜ (r .hold ≡ starved count home (now (ns .entry)) from (row-count (now (ns .entry)) - from))
+        × (r .transfer ≡ unbacked count home (now (ns .entry)) from (row-count (now (ns .entry)) - from)) ⌝ }
+{
+    let rows = ns.len() / 4;
+    let mut seen = Seen {
+        second: 0,
+        word: standing(ns, count, home, 0),
+    };
+    let mut low = rows;
+    let mut late = rows;
+    let mut i = from;
+    while i < rows {
+        let r = row(ns, i);
+        seen = seen_at(ns, count, home, seen, second(r));
+        low = lower(unfed(ns, seen.word, seen.second, r.b), low);
+        late = lower(unbacked(ns, seen.word, r.a, i), late);
+        i += 1;
+    }
+    Faults {
+        hold: low,
+        transfer: late,
+    }
+}
+
+// Hold i is the first such one, or no copy may come to its start.
+fn fails(ns: &[u32], home: u32, low: usize, i: usize) -> bool
+    ensures { λ r. ⌜ r ≡ either (eqb i low) (not (fed home (now (ns .entry)) (second-of (row-at (now (ns .entry)) i)) (server-of (row-at (now (ns .entry)) i)))) ⌝ }
+{
+    if i == low {
+        return true;
+    }
+    let r = row(ns, i);
+    !fed(ns, home, second(r), r.a)
+}
+
+// Each of the first rows: holds.
+fn holds_fault(ns: &[u32], home: u32, low: usize, holds: usize) -> Verdict
+    requires { ⌜ holds ≤ row-count (now ns) ⌝ }
+    ensures { λ r. ⌜ r ≡ first (each (hold-test home (now (ns .entry)) low) holds) ⌝ }
+{
+    let mut i: usize = 0;
+    while i < holds {
+        if fails(ns, home, low, i) {
+            return Verdict::Refused(Refusal {
+                number: 17,
+                place: place(i),
+            });
+        }
+        i += 1;
+    }
+    Verdict::Passed
+}
+
+// The first transfer with no copy, if there is one.
+fn transfer_fault(ns: &[u32], late: usize) -> Verdict
+    ensures { λ r. ⌜ r ≡ first (transfer-test (now (ns .entry)) late) ⌝ }
+{
+    if late < ns.len() / 4 {
+        return Verdict::Refused(Refusal {
+            number: 17,
+            place: place(late),
+        });
+    }
+    Verdict::Passed
+}
+
+// 17 for each row.
+pub fn copies_fault(ns: &[u32], count: u32, home: u32) -> Verdict
+    ensures { λ r. ⌜ r ≡ first (copy-tests count home (now (ns .entry))) ⌝ }
+{
+    let holds = from_second(ns, 0);
+    let low = scan(ns, count, home, holds);
+    let v = holds_fault(ns, home, low.hold, holds);
+    if let Verdict::Refused(r) = v {
+        return Verdict::Refused(r);
+    }
+    transfer_fault(ns, low.transfer)
+}
