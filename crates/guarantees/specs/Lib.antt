@@ -6,3 +6,4 @@ pub mod Calls
 pub mod RoundTrips
 pub mod CheckerAccepts
 pub mod Demand3
+pub mod SheetColumns

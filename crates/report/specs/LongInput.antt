@@ -1,0 +1,120 @@
+-- An input of which no more bytes are read than the limit is answered as the whole would be.
+use mathlib.Core.Bool.{true, false, not}
+use mathlib.Core.List.{List, [], _∷_, _++_}
+use mathlib.Core.Logic.{_⊎_, inl, inr}
+use mathlib.Core.Path.{_≡_, refl, sym, ap, _∙_}
+use Prim.Native.Nat.{ℕ, _+_, _≤_, _<_}
+use native.Mathlib.Omega.{arith}
+use lib.Dec.{ltb, eqb}
+use lib.ListN.{getD, length, take}
+use lib.Seq.{getD-take, length-take-le, take-all}
+use borrow.Author.Tests.{le-ltb, ltb-false, eqb-true, not-false, ne-eqb}
+use Rattle.base.specs.Choice.{either, le-or-lt}
+use Rattle.base.specs.ChoiceLaws.{either-false}
+use Rattle.base.specs.Bytes.{byte, le16, le32}
+use Rattle.base.specs.Refusals.{Condition, refuse, first, each}
+use Rattle.base.specs.RefusalLaws.{otherwise, first-append, first-met, first-passed}
+use Rattle.base.specs.declared.Refusal.{Refusal}
+use Rattle.base.specs.declared.Verdict.{Verdict}
+use Rattle.base.specs.declared.Verdict.the-variants.{Passed, Refused}
+use Rattle.log.specs.Fields.{version, class-of, server-count, home-of, request-count, requests-offset, id-offset, total-length, written-sum, length-for}
+use Rattle.log.specs.Sum.{sum-of}
+use Rattle.log.specs.Conditions.{setup-conditions, header-conditions, log-conditions, verdict-of}
+use Rattle.log.specs.ConditionLaws.{log-requests}
+use Rattle.report.specs.Output.{output-by, output, limit}
+
+-- the conditions 1 to 8
+abbrev early : List ℕ → List Condition
+early s =
+    refuse 1 0 (ltb (length s) 40)
+    ∷ refuse 2 0 (not (eqb (version s) 1))
+    ∷ (setup-conditions (class-of s) (server-count s) (home-of s)
+    ++ (refuse 6 0 (not (eqb (byte s 5) 0))
+    ∷ refuse 7 0 (ltb 2048 (request-count s))
+    ∷ refuse 8 0
+    (either (not (eqb (requests-offset s) 40))
+    (either (not (eqb (id-offset s) 24)) (not (eqb (total-length s) (length-for (request-count s))))))
+    ∷ []))
+
+-- 9
+abbrev ninth : List ℕ → Condition
+ninth s = refuse 9 0 (not (eqb (length s) (total-length s)))
+
+-- 10 to 13
+abbrev late : List ℕ → List Condition
+late s = refuse 10 0 (not (eqb (written-sum s) (sum-of s))) ∷ each (log-requests s) (request-count s)
+
+-- refused by 1 to 8, or else by 9
+abbrev by-form : List ℕ → Verdict
+by-form s = otherwise (first (early s)) (Refused (record { number = 9; place = 0 }))
+
+-- what refuses a log that is longer than any can be
+long-verdict : (s : List ℕ) → 12328 < length s → verdict-of s ≡ by-form s
+unfolding verdict-of log-conditions header-conditions setup-conditions length-for
+long-verdict s h = first-append (early s) (ninth s ∷ late s) ∙ go (first (early s)) refl
+  where
+    go : (v : Verdict) → first (early s) ≡ v → otherwise (first (early s)) (first (ninth s ∷ late s)) ≡ by-form s
+    go Passed e =
+        let f = first-passed (early s) .0 e in
+        let few : request-count s ≤ 2048 = ltb-false 2048 (request-count s) (f 6) in
+        let a = not (eqb (requests-offset s) 40) in
+        let b = not (eqb (id-offset s) 24) in
+        let d = eqb (total-length s) (length-for (request-count s)) in
+        let total : total-length s ≡ length-for (request-count s) =
+        eqb-true _ _ (not-false d (either-false b (not d) .0 (either-false a (either b (not d)) .0 (f 7) .1) .1)) in
+        rw e (first-met (ninth s) (late s) (ap not (ne-eqb (length s) (total-length s) (λ z. omega arith))))
+    go (Refused r) e = rw e refl
+
+-- 1 to 8 look at no byte after 19
+module _ (s t : List ℕ) (same : (k : ℕ) → k < 20 → byte t k ≡ byte s k) where
+  le16-same : (k : ℕ) → k < 19 → le16 t k ≡ le16 s k
+  le16-same k l = rw (same k (omega arith), same (k + 1) (omega arith))
+
+  le32-same : (k : ℕ) → k < 17 → le32 t k ≡ le32 s k
+  le32-same k l = rw (le16-same k (omega arith), le16-same (k + 2) (omega arith))
+
+  early-same : 40 ≤ length s → 40 ≤ length t → early t ≡ early s
+  unfolding version class-of server-count home-of request-count requests-offset id-offset total-length
+  early-same h l =
+      rw (
+        le-ltb (length s) 40 h,
+        le-ltb (length t) 40 l,
+        le16-same 0 (omega arith),
+        same 2 (omega arith),
+        same 3 (omega arith),
+        same 4 (omega arith),
+        same 5 (omega arith),
+        le16-same 6 (omega arith),
+        le32-same 8 (omega arith),
+        le32-same 12 (omega arith),
+        le32-same 16 (omega arith),
+      )
+
+-- the refusal that a verdict gives, else 9
+abbrev or-nine : Verdict → Refusal
+or-nine Passed = record { number = 9; place = 0 }
+or-nine (Refused r) = r
+
+refused-or-nine : (v : Verdict) → otherwise v (Refused (record { number = 9; place = 0 })) ≡ Refused (or-nine v)
+refused-or-nine Passed = refl
+refused-or-nine (Refused r) = refl
+
+-- a longer input is refused, and so are its first bytes, alike
+long-refused : (s : List ℕ) → limit ≤ length s → (r : Refusal) × (verdict-of (take limit s) ≡ Refused r) × (verdict-of s ≡ Refused r)
+unfolding limit
+long-refused s h =
+    let long = length-take-le limit s h in
+    let same = early-same s (take limit s) (λ k l. getD-take limit s k 0 (omega arith)) (omega arith) (omega arith) in
+    let r = refused-or-nine (first (early s)) in
+    let e : by-form (take limit s) ≡ by-form s =
+    ap (λ (cs : List Condition). otherwise (first cs) (Refused (record { number = 9; place = 0 }))) same in
+    (or-nine (first (early s)), long-verdict (take limit s) (omega arith) ∙ e ∙ r, long-verdict s (omega arith) ∙ r)
+
+-- so the first bytes of an input are enough
+pub enough : (s : List ℕ) → output (take limit s) ≡ output s
+unfolding output output-by
+enough s = go (le-or-lt (length s) limit)
+  where
+    go : (length s ≤ limit) ⊎ (limit < length s) → output (take limit s) ≡ output s
+    go (inl h) = ap output (take-all limit s h)
+    go (inr h) = let (r, p, q) = long-refused s (omega arith) in rw (p, q)

@@ -1,0 +1,104 @@
+-- The sheet of an accepted log: none of the calls that it is made of is refused, and zeros after their answers do not show.
+use mathlib.Core.Bool.{false}
+use mathlib.Core.List.{List, [], _∷_, _++_}
+use mathlib.Core.Path.{_≡_, refl, sym, ap, _∙_}
+use Prim.Native.Nat.{ℕ, zero, suc, _+_, _*_, _≤_, _<_}
+use native.Mathlib.Omega.{arith}
+use lib.ListN.{getD, length}
+use borrow.Author.Tests.{le-ltb}
+use Rattle.base.specs.Lists.{build, build-same}
+use Rattle.base.specs.Refusals.{first, short}
+use Rattle.base.specs.RefusalLaws.{otherwise, first-append}
+use Rattle.base.specs.declared.Refusal.{Refusal}
+use Rattle.base.specs.declared.Verdict.{Verdict}
+use Rattle.base.specs.declared.Verdict.the-variants.{Passed, Refused}
+use Rattle.log.specs.Fields.{request-count, server-count, seconds-of, servers-of}
+use Rattle.log.specs.Conditions.{Accepted, log-conditions, verdict-of}
+use Rattle.log.specs.AcceptedLaws.{accepted-sound}
+use Rattle.log.specs.Answers.{read-verdict}
+use Rattle.online.specs.declared.Cache.{Cache}
+use Rattle.model.specs.FlatLaws.{flat-length}
+use Rattle.model.specs.LogRequests.{requests-in}
+use Rattle.model.specs.LogRequestLaws.{log-within}
+use Rattle.model.specs.Marking.{rows}
+use Rattle.model.specs.Plan.{plan-rows}
+use Rattle.model.specs.RowsCost.{rows-few}
+use Rattle.planner.specs.Answers.{marks-of, planned-rows, rows-of-plan, plan-verdict, least-costs, least-verdict}
+use Rattle.report.specs.Answers.{room-verdict}
+use Rattle.report.specs.Alike.{Alike, state-alike, mark-alike, cost-alike, sheet-alike}
+use Rattle.report.specs.Live.{live-mark, live-cost, live-marks, running-costs, opened}
+use Rattle.report.specs.LiveLaws.{Runs, goes-on}
+use Rattle.report.specs.Sheet.{columns-of, sheet-of, sheet-verdict}
+use Rattle.report.specs.Text.{columns, entry-of, sheet-text}
+
+-- conditions that fail after an accepted log
+passed-after : (log : List ℕ) (xs : _) → Accepted log → first (log-conditions log ++ xs) ≡ first xs
+unfolding Accepted verdict-of
+passed-after log xs a = first-append (log-conditions log) xs ∙ ap (λ (v : Verdict). otherwise v (first xs)) a
+
+-- a refused log is refused
+pub sheet-refused : (log : List ℕ) (room : ℕ) (r : Refusal) → verdict-of log ≡ Refused r → sheet-verdict log room ≡ Refused r
+unfolding sheet-verdict verdict-of
+sheet-refused log room r e =
+    let xs = short (length (sheet-of log)) room ∷ [] in
+    first-append (log-conditions log) xs ∙ ap (λ (v : Verdict). otherwise v (first xs)) e
+
+-- the sheet of an accepted log needs room
+pub sheet-accepted : (log : List ℕ) (room : ℕ) → Accepted log → sheet-verdict log room ≡ room-verdict (sheet-of log) room
+unfolding sheet-verdict room-verdict
+sheet-accepted log room a = passed-after log (short (length (sheet-of log)) room ∷ []) a
+
+module _ (log : List ℕ) (a : Accepted log) where
+  -- it is read
+  pub read-passes : read-verdict log 2048 2048 ≡ Passed
+  unfolding read-verdict first
+  read-passes = passed-after log _ a ∙ rw (le-ltb 2048 (request-count log) (accepted-sound log a .requests-most))
+
+  -- its least costs are found
+  pub least-passes : least-verdict log 2049 ≡ Passed
+  unfolding least-verdict first
+  least-passes = passed-after log _ a ∙ rw (le-ltb 2049 (suc (request-count log)) (omega (arith, accepted-sound log a .requests-most)))
+
+  -- its plan has at most two rows for each request
+  pub few-rows : length (planned-rows log) ≤ 2 * request-count log
+  unfolding planned-rows plan-rows rows
+  few-rows = rows-few (requests-in log) (server-count log) _ (request-count log) _ (log-within log a)
+
+  -- and is found
+  pub plan-passes : plan-verdict log 2048 16384 ≡ Passed
+  unfolding plan-verdict rows-of-plan first
+  plan-passes =
+      passed-after log _ a
+      ∙ rw (
+        le-ltb 2048 (request-count log) (accepted-sound log a .requests-most),
+        le-ltb 16384 (length (rows-of-plan log)) (omega (arith, flat-length (planned-rows log), few-rows, accepted-sound log a .requests-most)),
+      )
+
+  -- the online cache goes through its requests, read from lists that hold them
+  pub runs-read : (seconds servers : List ℕ) → Alike seconds (seconds-of log) → Alike servers (servers-of log)
+      → Runs (opened log) seconds servers (request-count log)
+  unfolding Runs
+  runs-read seconds servers h k i l =
+      rw (state-alike (opened log) seconds servers (seconds-of log) (servers-of log) h k i, h i, k i) (goes-on log a i l)
+
+-- lists that hold what the calls answer make the sheet
+pub sheet-made : (log : List ℕ) (n rows : ℕ) (cache : Cache) (seconds servers plan live least costs : List ℕ)
+    → n ≡ request-count log → rows ≡ length (planned-rows log) → cache ≡ opened log
+    → Alike seconds (seconds-of log) → Alike servers (servers-of log) → Alike plan (marks-of log) → Alike least (least-costs log)
+    → Alike live (build n (live-mark cache seconds servers)) → Alike costs (build n (live-cost cache seconds servers))
+    → sheet-text (entry-of (columns seconds servers plan live least costs)) n rows ≡ sheet-of log
+unfolding sheet-of columns-of live-marks running-costs
+sheet-made log n rows cache seconds servers plan live least costs e f g h k l m p q =
+    rw (e, f)
+    (sheet-alike (columns seconds servers plan live least costs) (columns-of log) (request-count log) (length (planned-rows log)) h k l (λ i. rw (← marks) (p i)) m
+    (λ i. rw (← amounts) (q i)))
+  where
+    marks : build n (live-mark cache seconds servers) ≡ live-marks log
+    marks =
+        rw (e, g)
+        (build-same (request-count log) _ _ (λ j b. mark-alike (opened log) seconds servers (seconds-of log) (servers-of log) h k j))
+
+    amounts : build n (live-cost cache seconds servers) ≡ running-costs log
+    amounts =
+        rw (e, g)
+        (build-same (request-count log) _ _ (λ j b. cost-alike (opened log) seconds servers (seconds-of log) (servers-of log) h k j))

@@ -1,0 +1,62 @@
+-- The sheet of an accepted log has at most 223,299 bytes.
+use mathlib.Core.List.{List}
+use mathlib.Core.Path.{_≡_}
+use Prim.Native.Nat.{ℕ, zero, suc, _*_, _^_, _≤_, _<_}
+use native.Mathlib.Omega.{arith}
+use lib.ListN.{getD, length}
+use Rattle.base.specs.Lists.{build-at}
+use Rattle.log.specs.Fields.{request-count, seconds-of, servers-of}
+use Rattle.log.specs.Conditions.{Accepted}
+use Rattle.log.specs.AcceptedLaws.{accepted-sound}
+use Rattle.model.specs.LogRequests.{requests-in, prices-in}
+use Rattle.model.specs.Plan.{plan-cost}
+use Rattle.model.specs.PlanLaws.{plan-best}
+use Rattle.planner.specs.Answers.{planned-rows, least-costs}
+use Rattle.planner.specs.Fits.{best-small}
+use Rattle.planner.specs.LoadedLaws.{log-fits}
+use Rattle.online.specs.Widths.{running-fits}
+use Rattle.report.specs.declared.Entry.{Entry}
+use Rattle.report.specs.Live.{live-cost, opened, running-costs}
+use Rattle.report.specs.LiveLaws.{sound-after}
+use Rattle.report.specs.Sheet.{columns-of, sheet-of}
+use Rattle.report.specs.SheetLaws.{few-rows}
+use Rattle.report.specs.Text.{entry-of, entry-line, entry-lines}
+use Rattle.report.specs.TextLaws.{entry-length, lines-longer, sheet-length}
+
+module _ (log : List ℕ) (a : Accepted log) where
+  -- its costs have at most 20 digits
+  least-small : (k : ℕ) → k ≤ request-count log → getD (least-costs log) k 0 < 2 ^ 64
+  unfolding least-costs
+  least-small k h =
+      rw (build-at (suc (request-count log)) (λ k. plan-cost (prices-in log) (requests-in log) k) k 0 (omega arith), plan-best (prices-in log) (requests-in log) k)
+      (omega (arith, best-small (prices-in log) (requests-in log) (request-count log) (log-fits log a) k k (omega arith) h))
+
+  running-small : (i : ℕ) → i < request-count log → getD (running-costs log) i 0 < 2 ^ 64
+  unfolding running-costs live-cost
+  running-small i h =
+      rw (build-at (request-count log) (live-cost (opened log) (seconds-of log) (servers-of log)) i 0 h) (running-fits _ (sound-after log a (suc i) h))
+
+  abbrev entry : ℕ → Entry
+  entry = entry-of (columns-of log)
+
+  -- a line
+  line-short : (i : ℕ) → i < request-count log → length (entry-line (entry i)) ≤ 109
+  unfolding entry-of columns-of
+  line-short i h =
+      let f = accepted-sound log a in
+      let o = f .in-order i h in
+      entry-length (entry i) (omega (arith, f .requests-most)) (omega (arith, o .second-most)) (omega (arith, o .server-below, f .setup .servers-most))
+      (least-small (suc i) h) (running-small i h)
+
+  -- its lines
+  lines-short : (k : ℕ) → k ≤ request-count log → length (entry-lines entry k) ≤ 109 * k
+  unfolding entry-lines
+  lines-short zero h = omega arith
+  lines-short (suc k) h = lines-longer entry k (lines-short k (omega arith)) (line-short k h)
+
+  -- all of it
+  pub sheet-fits : length (sheet-of log) ≤ 223299
+  unfolding sheet-of
+  sheet-fits =
+      let few = accepted-sound log a .requests-most in
+      sheet-length entry (request-count log) (length (planned-rows log)) few (omega (arith, few-rows log a, few)) (lines-short (request-count log) (omega arith))

@@ -1,0 +1,111 @@
+// The online cache over the requests of a log.
+ghost use mathlib.Core.Path.{_≡_};
+ghost use mathlib.Core.List.{_++_};
+ghost use Prim.Native.Nat.{_≤_};
+ghost use lib.ListN.{length, drop};
+ghost use Rattle.base.specs.Lent.{lent};
+ghost use Rattle.base.specs.Lists.{build};
+ghost use Rattle.base.specs.declared.Verdict.the-variants.{Passed};
+ghost use Rattle.online.specs.Answers.{started};
+ghost use Rattle.report.specs.Live.{live-mark, live-cost, outcome-letter, outcome-cost, turn};
+ghost use Rattle.report.specs.LiveLaws.{Runs};
+use base::bytes::clear8;
+use base::bytes::clear64;
+use log::Header;
+use online::Cache;
+use online::CloseOutcome;
+use online::ScanOutcome;
+
+// One request: the next state, the letter of the mark, and the running cost.
+pub struct Turn {
+    pub cache: Cache,
+    pub mark: u8,
+    pub cost: u64,
+}
+
+// A mark as one ASCII letter.
+fn letter(outcome: ScanOutcome) -> u8
+    ensures { λ r. ⌜ r ≡ outcome-letter outcome ⌝ }
+{
+    match outcome {
+        ScanOutcome::Kept => b'K',
+        ScanOutcome::Sent(_) => b'S',
+        ScanOutcome::Refused(_) => 0,
+    }
+}
+
+// The cost that a close gives.
+fn amount(outcome: CloseOutcome) -> u64
+    ensures { λ r. ⌜ r ≡ outcome-cost outcome ⌝ }
+{
+    match outcome {
+        CloseOutcome::Cost(x) => x,
+        CloseOutcome::Refused(_) => 0,
+    }
+}
+
+// One request scanned. The state is closed for its running cost only, and goes on open.
+fn step(cache: Cache, second: u32, server: u16) -> Turn
+    ensures { λ r. ⌜ r ≡ turn cache second server ⌝ }
+{
+    let scanned = cache.scan(second, server);
+    let outcome = scanned.outcome;
+    let next = scanned.cache;
+    let closed = next.close();
+    let end = closed.outcome;
+    Turn {
+        cache: next,
+        mark: letter(outcome),
+        cost: amount(end),
+    }
+}
+
+// The state of a log's start.
+pub fn open(header: Header) -> Cache
+    ensures { λ r. ⌜ r ≡ started (header .«class») (header .«server_count») (header .home) .cache ⌝ }
+{
+    let s = Cache::start(header.class, header.server_count, header.home);
+    s.cache
+}
+
+// The marks and running costs of n requests, into the fronts of two lists.
+fn replay(
+    cache: Cache,
+    seconds: &[u32],
+    servers: &[u16],
+    n: usize,
+    marks: &mut [u8],
+    costs: &mut [u64],
+)
+    requires { ⌜ Runs cache (now seconds) (now servers) n × (n ≤ length (now seconds)) × (n ≤ length (now servers)) × (n ≤ length (now marks)) × (n ≤ length (now costs)) ⌝ }
+    ensures { λ _. ⌜ now (marks .exit) ≡ build n (live-mark cache (now (seconds .entry)) (now (servers .entry))) ++ drop n (now (marks .entry)) ⌝ }
+    ensures { λ _. ⌜ now (costs .exit) ≡ build n (live-cost cache (now (seconds .entry)) (now (servers .entry))) ++ drop n (now (costs .entry)) ⌝ }
+{
+    let mut state = cache;
+    let mut i: usize = 0;
+    while i < n {
+        let t = step(state, seconds[i], servers[i]);
+        marks[i] = t.mark;
+        costs[i] = t.cost;
+        state = t.cache;
+        i += 1;
+    }
+}
+
+// The same, and zeros after them.
+pub(crate) fn give_live(
+    cache: Cache,
+    seconds: &[u32],
+    servers: &[u16],
+    n: usize,
+    marks: &mut [u8],
+    costs: &mut [u64],
+)
+    requires { ⌜ Runs cache (now seconds) (now servers) n × (n ≤ length (now seconds)) × (n ≤ length (now servers)) × (n ≤ length (now marks)) × (n ≤ length (now costs)) ⌝ }
+    ensures { λ _. ⌜ now (marks .exit) ≡ lent Passed (build n (live-mark cache (now (seconds .entry)) (now (servers .entry)))) (now (marks .entry)) ⌝ }
+    ensures { λ _. ⌜ now (costs .exit) ≡ lent Passed (build n (live-cost cache (now (seconds .entry)) (now (servers .entry)))) (now (costs .entry)) ⌝ }
+{
+    replay(cache, seconds, servers, n, marks, costs);
+    clear8(marks, n);
+    clear64(costs, n);
+}

@@ -1,0 +1,17 @@
+use mathlib.Core.Path.{sym}
+use Prim.Native.Nat.{ℕ}
+use lib.ListN.{length-replicate}
+use Rattle.report.specs.Output.{limit}
+use Rattle.sheet.proofs.input.Statement.{statement}
+use Rattle.sheet.proofs.input.Tie as tie
+use Rattle.sheet.proofs.input.Reads as reads
+use Rattle.sheet.proofs.input.Lts as lts
+
+-- src/main.rt:15:1
+returns : tie.Need-returns
+unfolding limit
+returns c =
+    sym (length-replicate {A = ℕ} 12329 0)
+
+pub input-spec : {M : Type 1} → statement M
+input-spec = tie.close (tie.spec returns)

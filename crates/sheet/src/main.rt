@@ -1,0 +1,65 @@
+// The sheet program: a log on standard input, its sheet or one line of refusal on standard output.
+ghost use mathlib.Core.Path.{_≡_};
+ghost use Prim.Native.Nat.{_≤_};
+ghost use lib.ListN.{length, take};
+ghost use Rattle.report.specs.Output.{output, limit};
+ghost use Rattle.report.specs.Text.{refusal-text};
+use base::Refusal;
+use libc::STDIN_FILENO;
+use libc::STDOUT_FILENO;
+use report::Printed;
+use report::refusal_line;
+use report::sheet;
+
+// Room for the longest log and one byte more, so that a longer input is refused as it would be whole.
+fn input() -> [u8; 12329]
+    ensures { λ r. ⌜ limit ≡ length r ⌝ }
+{
+    [0u8; 12329]
+}
+
+// Room for any sheet.
+fn room() -> [u8; 223299]
+    ensures { λ r. ⌜ 223299 ≡ length r ⌝ }
+{
+    [0u8; 223299]
+}
+
+fn size(n: u64) -> usize
+    ensures { λ r. ⌜ r ≡ n ⌝ }
+{
+    n as usize
+}
+
+// The line of a refusal, and its length. It always fits.
+fn refuse(refusal: Refusal, text: &mut [u8]) -> usize
+    requires { ⌜ 64 ≤ length (now text) ⌝ }
+    ensures { λ r. ⌜ (r ≤ length (now (text .exit))) × (take r (now (text .exit)) ≡ refusal-text refusal) ⌝ }
+{
+    let printed = refusal_line(refusal, text);
+    match printed {
+        Printed::Length(n) => size(n),
+        Printed::Refused(_) => 0,
+    }
+}
+
+// All that is written for an input, the sheet or the line of a refusal, and its length.
+fn answer(log: &[u8], text: &mut [u8]) -> usize
+    requires { ⌜ 223299 ≤ length (now text) ⌝ }
+    ensures { λ r. ⌜ (r ≤ length (now (text .exit))) × (take r (now (text .exit)) ≡ output (now (log .entry))) ⌝ }
+{
+    let printed = sheet(log, text);
+    match printed {
+        Printed::Length(n) => size(n),
+        Printed::Refused(r) => refuse(r, text),
+    }
+}
+
+// An input that cannot be read counts as ended there; where the output cannot be written nothing more is done.
+fn main() {
+    let mut log = input();
+    let n = io::read_full(STDIN_FILENO, &mut log);
+    let mut text = room();
+    let end = answer(&log[..n], &mut text);
+    io::write_all(STDOUT_FILENO, &text[..end]);
+}

@@ -1,0 +1,67 @@
+use borrow.Author.Needs.{needs}
+use Prim.Native.Nat.{_≤_, _-_}
+use Rattle.vectors.proofs.trials.same_rows.Statement.{statement}
+use Rattle.vectors.proofs.trials.same_rows.Tie as tie
+
+abbrev Inv-loop : tie.InvT-loop
+Inv-loop rows others k₀ k = k ≤ 64
+
+abbrev μ-loop : tie.MeasureT-loop
+μ-loop rows others k₀ k = 64 - k
+
+-- src/trials.rt:91:5
+loop-holds : tie.Need-loop-holds Inv-loop μ-loop
+loop-holds c = search needs
+
+-- src/trials.rt:92:12
+mul-if1 : tie.Need-mul-if1 Inv-loop μ-loop
+mul-if1 c = search needs
+
+-- src/trials.rt:92:12
+element-copy-out-if1 : tie.Need-element-copy-out-if1 Inv-loop μ-loop
+element-copy-out-if1 c = search needs
+
+-- src/trials.rt:92:23
+mul-if1-2 : tie.Need-mul-if1-2 Inv-loop μ-loop
+mul-if1-2 c = search needs
+
+-- src/trials.rt:92:23
+element-copy-out-if1-2 : tie.Need-element-copy-out-if1-2 Inv-loop μ-loop
+element-copy-out-if1-2 c = search needs
+
+-- src/trials.rt:93:13
+returns : tie.Need-returns Inv-loop μ-loop
+returns c = search needs
+
+-- src/trials.rt:91:9
+add-k : tie.Need-add-k Inv-loop μ-loop
+add-k c = search needs
+
+-- src/trials.rt:91:5
+loop-less : tie.Need-loop-less Inv-loop μ-loop
+loop-less c = search needs
+
+-- src/trials.rt:91:5
+loop-again : tie.Need-loop-again Inv-loop μ-loop
+loop-again c = search needs
+
+-- src/trials.rt:90:1
+returns-2 : tie.Need-returns-2 Inv-loop μ-loop
+returns-2 c = search needs
+
+pub same-rows-spec : {M : Type 1} → statement M
+same-rows-spec =
+    tie.close
+    (tie.spec
+    Inv-loop
+    μ-loop
+    loop-holds
+    mul-if1
+    element-copy-out-if1
+    mul-if1-2
+    element-copy-out-if1-2
+    returns
+    add-k
+    loop-less
+    loop-again
+    returns-2)

@@ -1,0 +1,117 @@
+// The library's calls, each with a number for its answer: ABSENT where it is refused.
+use checker::Checked;
+use checker::check;
+use log::Header;
+use log::Written;
+use log::write;
+use online::Cache;
+use online::CloseOutcome;
+use planner::LeastCosts;
+use planner::Planned;
+use planner::least;
+use planner::plan;
+
+pub const ABSENT: u64 = 18446744073709551615;
+
+// The length of the log that is written.
+pub fn written(
+    class: u8,
+    server_count: u8,
+    home: u8,
+    seconds: &[u32],
+    servers: &[u16],
+    log: &mut [u8],
+) -> u64 {
+    let header = Header {
+        class,
+        server_count,
+        home,
+        id: *b"felzoumig vector",
+    };
+    let w = write(header, seconds, servers, log);
+    match w {
+        Written::Length(n) => n,
+        Written::Refused(_) => ABSENT,
+    }
+}
+
+// A plan's cost and the number of its rows.
+pub struct Plan {
+    pub cost: u64,
+    pub rows: u32,
+}
+
+pub fn planned(log: &[u8], marks: &mut [u8], rows: &mut [u32]) -> Plan {
+    let p = plan(log, marks, rows);
+    match p {
+        Planned::Plan { cost, rows: n } => Plan { cost, rows: n },
+        Planned::Refused(_) => Plan {
+            cost: ABSENT,
+            rows: 0,
+        },
+    }
+}
+
+// How many least costs are given.
+pub fn least_given(log: &[u8], costs: &mut [u64]) -> u64 {
+    let l = least(log, costs);
+    match l {
+        LeastCosts::Costs(n) => n as u64,
+        LeastCosts::Refused(_) => ABSENT,
+    }
+}
+
+// The cost of rows.
+pub fn checked(log: &[u8], rows: &[u32]) -> u64 {
+    let c = check(log, rows);
+    match c {
+        Checked::Cost(cost) => cost,
+        Checked::Refused(_) => ABSENT,
+    }
+}
+
+// The checker's cost of the first n rows of a list.
+pub fn checked_rows(log: &[u8], rows: &[u32], n: u32) -> u64 {
+    let end = 4 * n as usize;
+    if rows.len() < end {
+        return ABSENT;
+    }
+    checked(log, &rows[..end])
+}
+
+fn amount(outcome: CloseOutcome) -> u64 {
+    match outcome {
+        CloseOutcome::Cost(cost) => cost,
+        CloseOutcome::Refused(_) => ABSENT,
+    }
+}
+
+fn opened(class: u8, server_count: u8, home: u8) -> Cache {
+    let s = Cache::start(class, server_count, home);
+    s.cache
+}
+
+fn next(cache: Cache, second: u32, server: u16) -> Cache {
+    let s = cache.scan(second, server);
+    s.cache
+}
+
+fn ended(cache: Cache) -> u64 {
+    let c = cache.close();
+    let end = c.outcome;
+    amount(end)
+}
+
+// The running cost after all requests.
+pub fn live(class: u8, server_count: u8, home: u8, seconds: &[u32], servers: &[u16]) -> u64 {
+    let mut cache = opened(class, server_count, home);
+    let mut i: usize = 0;
+    while i < seconds.len() {
+        if servers.len() <= i {
+            return ABSENT;
+        }
+        cache = next(cache, seconds[i], servers[i]);
+        i += 1;
+    }
+    ended(cache)
+}
