@@ -12,7 +12,7 @@ use std::num::wrapping_add_u64;
 const BITS: [u32; 8] = [1, 2, 4, 8, 16, 32, 64, 128];
 
 // Request k + 1 is K.
-pub fn kept(marks: u32, k: usize) -> bool {
+pub(crate) fn kept(marks: u32, k: usize) -> bool {
     if k < 8 {
         return marks & BITS[k] != 0;
     }
@@ -84,7 +84,7 @@ fn holds(servers: &[u16; 8], n: usize, marks: u32, y: u16, k: usize) -> bool {
 }
 
 // What it costs to hold from one second to another.
-pub fn held(prices: Prices, from: u32, to: u32) -> u64 {
+pub(crate) fn held(prices: Prices, from: u32, to: u32) -> u64 {
     wide(prices.hold) * wide(since(from, to))
 }
 
@@ -128,9 +128,9 @@ fn cost(prices: Prices, seconds: &[u32; 8], servers: &[u16; 8], n: usize, marks:
 }
 
 // A list of marks and its cost.
-pub struct Priced {
-    pub marks: u32,
-    pub cost: u64,
+pub(crate) struct Priced {
+    pub(crate) marks: u32,
+    pub(crate) cost: u64,
 }
 
 fn cheaper(best: Priced, marks: u32, cost: u64) -> Priced {
@@ -149,7 +149,7 @@ fn right(servers: &[u16; 8], n: usize, marks: u32, must: u32) -> bool {
 }
 
 // The first of the cheapest among the marks of n requests that have all bits of `must`.
-pub fn cheapest(
+pub(crate) fn cheapest(
     prices: Prices,
     seconds: &[u32; 8],
     servers: &[u16; 8],
@@ -303,7 +303,7 @@ fn transfer_rows(
 }
 
 // The rows of n marks over at most four servers; how many numbers they are.
-pub fn put_rows(
+pub(crate) fn put_rows(
     seconds: &[u32; 8],
     servers: &[u16; 8],
     n: usize,

@@ -122,7 +122,7 @@ fn show_costs(log: &[u8; 82]) {
     say_candidates(&costs);
 }
 
-pub fn show() {
+pub(crate) fn show() {
     let mut log = [0u8; 82];
     let seconds = SECONDS;
     let servers = SERVERS;

@@ -11,10 +11,10 @@ use planner::Planned;
 use planner::least;
 use planner::plan;
 
-pub const ABSENT: u64 = 18446744073709551615;
+pub(crate) const ABSENT: u64 = 18446744073709551615;
 
 // The length of the log that is written.
-pub fn written(
+pub(crate) fn written(
     class: u8,
     server_count: u8,
     home: u8,
@@ -36,12 +36,12 @@ pub fn written(
 }
 
 // A plan's cost and the number of its rows.
-pub struct Plan {
-    pub cost: u64,
-    pub rows: u32,
+pub(crate) struct Plan {
+    pub(crate) cost: u64,
+    pub(crate) rows: u32,
 }
 
-pub fn planned(log: &[u8], marks: &mut [u8], rows: &mut [u32]) -> Plan {
+pub(crate) fn planned(log: &[u8], marks: &mut [u8], rows: &mut [u32]) -> Plan {
     let p = plan(log, marks, rows);
     match p {
         Planned::Plan { cost, rows: n } => Plan { cost, rows: n },
@@ -53,7 +53,7 @@ pub fn planned(log: &[u8], marks: &mut [u8], rows: &mut [u32]) -> Plan {
 }
 
 // How many least costs are given.
-pub fn least_given(log: &[u8], costs: &mut [u64]) -> u64 {
+pub(crate) fn least_given(log: &[u8], costs: &mut [u64]) -> u64 {
     let l = least(log, costs);
     match l {
         LeastCosts::Costs(n) => n as u64,
@@ -62,7 +62,7 @@ pub fn least_given(log: &[u8], costs: &mut [u64]) -> u64 {
 }
 
 // The cost of rows.
-pub fn checked(log: &[u8], rows: &[u32]) -> u64 {
+pub(crate) fn checked(log: &[u8], rows: &[u32]) -> u64 {
     let c = check(log, rows);
     match c {
         Checked::Cost(cost) => cost,
@@ -71,7 +71,7 @@ pub fn checked(log: &[u8], rows: &[u32]) -> u64 {
 }
 
 // The checker's cost of the first n rows of a list.
-pub fn checked_rows(log: &[u8], rows: &[u32], n: u32) -> u64 {
+pub(crate) fn checked_rows(log: &[u8], rows: &[u32], n: u32) -> u64 {
     let end = 4 * n as usize;
     if rows.len() < end {
         return ABSENT;
@@ -103,7 +103,7 @@ fn ended(cache: Cache) -> u64 {
 }
 
 // The running cost after all requests.
-pub fn live(class: u8, server_count: u8, home: u8, seconds: &[u32], servers: &[u16]) -> u64 {
+pub(crate) fn live(class: u8, server_count: u8, home: u8, seconds: &[u32], servers: &[u16]) -> u64 {
     let mut cache = opened(class, server_count, home);
     let mut i: usize = 0;
     while i < seconds.len() {

@@ -3,7 +3,7 @@ ghost use mathlib.Core.Path.{_≡_};
 ghost use Prim.Native.Nat.{_<_};
 
 // The second of request i.
-pub fn second(seconds: &[u32; 8], i: usize) -> u32 {
+pub(crate) fn second(seconds: &[u32; 8], i: usize) -> u32 {
     if i < 8 {
         return seconds[i];
     }
@@ -11,7 +11,7 @@ pub fn second(seconds: &[u32; 8], i: usize) -> u32 {
 }
 
 // The server of request i.
-pub fn server(servers: &[u16; 8], i: usize) -> u16 {
+pub(crate) fn server(servers: &[u16; 8], i: usize) -> u16 {
     if i < 8 {
         return servers[i];
     }
@@ -19,21 +19,21 @@ pub fn server(servers: &[u16; 8], i: usize) -> u16 {
 }
 
 // The place after k, 8 after the last.
-pub fn after(k: usize) -> usize {
+pub(crate) fn after(k: usize) -> usize {
     if 7 < k {
         return 8;
     }
     k + 1
 }
 
-pub fn wide(x: u32) -> u64
+pub(crate) fn wide(x: u32) -> u64
     ensures { λ r. ⌜ (r ≡ x) × (r < 4294967296) ⌝ }
 {
     x as u64
 }
 
 // The seconds from one to another.
-pub fn since(from: u32, to: u32) -> u32 {
+pub(crate) fn since(from: u32, to: u32) -> u32 {
     if to < from {
         return 0;
     }
@@ -48,7 +48,7 @@ fn same_before(servers: &[u16; 8], j: usize, i: usize) -> bool {
 }
 
 // The previous request at the same server, 8 where there is none.
-pub fn previous(servers: &[u16; 8], i: usize) -> usize {
+pub(crate) fn previous(servers: &[u16; 8], i: usize) -> usize {
     let mut found: usize = 8;
     for j in 0..8 {
         if same_before(servers, j, i) {

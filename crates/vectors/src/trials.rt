@@ -249,7 +249,7 @@ fn say_tally(t: Tally) {
     say::end_line();
 }
 
-pub fn show() {
+pub(crate) fn show() {
     let mut t = Tally {
         weeks: 0,
         costs: 0,

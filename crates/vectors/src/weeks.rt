@@ -135,7 +135,7 @@ fn show_sks() {
     show_requests(0, 2, 0, &seconds, &servers);
 }
 
-pub fn show() {
+pub(crate) fn show() {
     for i in 0..18 {
         show_week(WEEKS[i]);
     }
