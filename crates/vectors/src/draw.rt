@@ -24,7 +24,13 @@ pub(crate) fn narrow(x: u32) -> u16 {
 }
 
 // Seven requests at most `apart` seconds apart, over `count` servers; the number to go on with.
-pub(crate) fn draw(x: u32, apart: u32, count: u32, seconds: &mut [u32; 8], servers: &mut [u16; 8]) -> u32 {
+pub(crate) fn draw(
+    x: u32,
+    apart: u32,
+    count: u32,
+    seconds: &mut [u32; 8],
+    servers: &mut [u16; 8],
+) -> u32 {
     let mut y = x;
     let mut t: u32 = 0;
     for i in 0..8 {
