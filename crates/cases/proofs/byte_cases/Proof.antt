@@ -1,12 +1,8 @@
+-- `cases::byte_cases` meets its contract. Assumes nothing.
 use borrow.Author.Needs.{needs}
-use mathlib.Core.Path.{_≡_}
 use Prim.Native.Nat.{_≤_, _-_}
 use Rattle.cases.proofs.byte_cases.Statement.{statement}
 use Rattle.cases.proofs.byte_cases.Tie as tie
-use Rattle.cases.proofs.byte_cases.Reads as reads
-use Rattle.cases.proofs.byte_cases.Lts as lts
-use Rattle.cases.proofs.byte_case.Reads as byte-case-reads
-use Rattle.cases.proofs.sample.Reads as sample-reads
 
 abbrev Inv-loop : tie.InvT-loop
 Inv-loop log i₀ i = i ≤ 21
@@ -14,43 +10,33 @@ Inv-loop log i₀ i = i ≤ 21
 abbrev μ-loop : tie.MeasureT-loop
 μ-loop log i₀ i = 21 - i
 
--- src/main.rt:159:9
 sample-requires : tie.Need-sample-requires Inv-loop μ-loop
 sample-requires c κs = search needs
 
--- src/main.rt:160:5
 loop-holds : tie.Need-loop-holds Inv-loop μ-loop
 loop-holds c = search needs
 
--- src/main.rt:161:24
 mul-byte-case : tie.Need-mul-byte-case Inv-loop μ-loop
 mul-byte-case c = search needs
 
--- src/main.rt:161:24
 array-read-byte-case : tie.Need-array-read-byte-case Inv-loop μ-loop
 array-read-byte-case c = search needs
 
--- src/main.rt:161:31
 array-read-byte-case-2 : tie.Need-array-read-byte-case-2 Inv-loop μ-loop
 array-read-byte-case-2 c = search needs
 
--- src/main.rt:161:9
 byte-case-requires : tie.Need-byte-case-requires Inv-loop μ-loop
 byte-case-requires c κs = search needs
 
--- src/main.rt:160:9
 add-i : tie.Need-add-i Inv-loop μ-loop
 add-i c = search needs
 
--- src/main.rt:160:5
 loop-less : tie.Need-loop-less Inv-loop μ-loop
 loop-less c = search needs
 
--- src/main.rt:160:5
 loop-again : tie.Need-loop-again Inv-loop μ-loop
 loop-again c = search needs
 
--- src/main.rt:158:1
 returns : tie.Need-returns Inv-loop μ-loop
 returns c = search needs
 

@@ -1,67 +1,49 @@
+-- `cases::room_case` meets its contract. Assumes nothing.
 use borrow.Author.Needs.{needs}
 use mathlib.Core.Path.{sym}
 use lib.Seq.{length-take-le}
 use Rattle.cases.proofs.room_case.Statement.{statement}
 use Rattle.cases.proofs.room_case.Tie as tie
-use Rattle.cases.proofs.room_case.Reads as reads
-use Rattle.cases.proofs.room_case.Lts as lts
-use Rattle.cases.proofs.print.Reads as print-reads
-use Rattle.cases.proofs.print_number.Reads as print-number-reads
-use Rattle.cases.proofs.read_case.Reads as read-case-reads
 
--- src/main.rt:200:11
 slice-aggregate-print : tie.Need-slice-aggregate-print
 slice-aggregate-print c = search needs
 
--- src/main.rt:200:5
 print-requires : tie.Need-print-requires
 print-requires c κs = search needs
 
--- src/main.rt:201:5
 print-number-requires : tie.Need-print-number-requires
 print-number-requires c κs = search needs
 
--- src/main.rt:202:5
 print-number-requires-2 : tie.Need-print-number-requires-2
 print-number-requires-2 c κs = search needs
 
--- src/main.rt:204:9
 returns : tie.Need-returns
 returns c = search needs
 
--- src/main.rt:207:9
 returns-2 : tie.Need-returns-2
 returns-2 c = search needs
 
--- src/main.rt:209:15
 slice-aggregate-read-case : tie.Need-slice-aggregate-read-case
 slice-aggregate-read-case c = search needs
 
--- src/main.rt:209:21
 slice-aggregate-read-case-2 : tie.Need-slice-aggregate-read-case-2
 slice-aggregate-read-case-2 c = search needs
 
--- src/main.rt:209:27
 array-borrow-prefix-seconds : tie.Need-array-borrow-prefix-seconds
 array-borrow-prefix-seconds c = search needs
 
--- src/main.rt:209:27
 slice-aggregate-read-case-3 : tie.Need-slice-aggregate-read-case-3
 slice-aggregate-read-case-3 c = sym (length-take-le _ _ (search needs))
 
--- src/main.rt:209:46
 array-borrow-prefix-servers : tie.Need-array-borrow-prefix-servers
 array-borrow-prefix-servers c = search needs
 
--- src/main.rt:209:46
 slice-aggregate-read-case-4 : tie.Need-slice-aggregate-read-case-4
 slice-aggregate-read-case-4 c = sym (length-take-le _ _ (search needs))
 
--- src/main.rt:209:5
 read-case-requires : tie.Need-read-case-requires
 read-case-requires c κs = search needs
 
--- src/main.rt:197:1
 returns-3 : tie.Need-returns-3
 returns-3 c = search needs
 

@@ -1,25 +1,19 @@
+-- `cases::show_part` meets its contract. Assumes nothing.
 use borrow.Author.Needs.{needs}
 use mathlib.Core.Path.{sym}
 use lib.Seq.{length-take-le}
 use Rattle.cases.proofs.show_part.Statement.{statement}
 use Rattle.cases.proofs.show_part.Tie as tie
-use Rattle.cases.proofs.show_part.Reads as reads
-use Rattle.cases.proofs.show_part.Lts as lts
-use Rattle.cases.proofs.show.Reads as show-reads
 
--- src/main.rt:50:20
 slice-aggregate-show : tie.Need-slice-aggregate-show
 slice-aggregate-show c = sym (length-take-le _ _ (search needs))
 
--- src/main.rt:50:9
 show-requires : tie.Need-show-requires
 show-requires c κs = search needs
 
--- src/main.rt:48:1
 returns : tie.Need-returns
 returns c = search needs
 
--- src/main.rt:48:1
 returns-2 : tie.Need-returns-2
 returns-2 c = search needs
 

@@ -1,10 +1,8 @@
+-- `cases::write_cases` meets its contract. Assumes nothing.
 use borrow.Author.Needs.{needs}
 use Prim.Native.Nat.{_≤_, _-_}
 use Rattle.cases.proofs.write_cases.Statement.{statement}
 use Rattle.cases.proofs.write_cases.Tie as tie
-use Rattle.cases.proofs.write_cases.Reads as reads
-use Rattle.cases.proofs.write_cases.Lts as lts
-use Rattle.cases.proofs.write_row.Reads as write-row-reads
 
 abbrev Inv-loop : tie.InvT-loop
 Inv-loop i₀ i = i ≤ 17
@@ -12,35 +10,27 @@ Inv-loop i₀ i = i ≤ 17
 abbrev μ-loop : tie.MeasureT-loop
 μ-loop i₀ i = 17 - i
 
--- src/main.rt:275:5
 loop-holds : tie.Need-loop-holds Inv-loop μ-loop
 loop-holds c = search needs
 
--- src/main.rt:276:19
 mul-write-row : tie.Need-mul-write-row Inv-loop μ-loop
 mul-write-row c = search needs
 
--- src/main.rt:276:19
 array-copy-out-write-row : tie.Need-array-copy-out-write-row Inv-loop μ-loop
 array-copy-out-write-row c = search needs
 
--- src/main.rt:276:9
 write-row-requires : tie.Need-write-row-requires Inv-loop μ-loop
 write-row-requires c κs = search needs
 
--- src/main.rt:275:9
 add-i : tie.Need-add-i Inv-loop μ-loop
 add-i c = search needs
 
--- src/main.rt:275:5
 loop-less : tie.Need-loop-less Inv-loop μ-loop
 loop-less c = search needs
 
--- src/main.rt:275:5
 loop-again : tie.Need-loop-again Inv-loop μ-loop
 loop-again c = search needs
 
--- src/main.rt:274:1
 returns : tie.Need-returns Inv-loop μ-loop
 returns c = search needs
 

@@ -1,49 +1,37 @@
+-- `cases::write_first` meets its contract. Assumes nothing.
 use borrow.Author.Needs.{needs}
 use mathlib.Core.Path.{sym}
 use lib.Seq.{length-take-le}
 use Rattle.cases.proofs.write_first.Statement.{statement}
 use Rattle.cases.proofs.write_first.Tie as tie
-use Rattle.cases.proofs.write_first.Reads as reads
-use Rattle.cases.proofs.write_first.Lts as lts
-use Rattle.cases.proofs.write_case.Reads as write-case-reads
 
--- src/main.rt:252:9
 returns : tie.Need-returns
 returns c = search needs
 
--- src/main.rt:255:9
 returns-2 : tie.Need-returns-2
 returns-2 c = search needs
 
--- src/main.rt:257:16
 slice-aggregate-write-case : tie.Need-slice-aggregate-write-case
 slice-aggregate-write-case c = search needs
 
--- src/main.rt:257:30
 slice-aggregate-write-case-2 : tie.Need-slice-aggregate-write-case-2
 slice-aggregate-write-case-2 c = search needs
 
--- src/main.rt:257:40
 array-share-prefix-servers : tie.Need-array-share-prefix-servers
 array-share-prefix-servers c = search needs
 
--- src/main.rt:257:40
 slice-aggregate-write-case-3 : tie.Need-slice-aggregate-write-case-3
 slice-aggregate-write-case-3 c = sym (length-take-le _ _ (search needs))
 
--- src/main.rt:257:55
 array-borrow-prefix-log : tie.Need-array-borrow-prefix-log
 array-borrow-prefix-log c = search needs
 
--- src/main.rt:257:55
 slice-aggregate-write-case-4 : tie.Need-slice-aggregate-write-case-4
 slice-aggregate-write-case-4 c = sym (length-take-le _ _ (search needs))
 
--- src/main.rt:257:5
 write-case-requires : tie.Need-write-case-requires
 write-case-requires c κs = search needs
 
--- src/main.rt:249:1
 returns-3 : tie.Need-returns-3
 returns-3 c = search needs
 

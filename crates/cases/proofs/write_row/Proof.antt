@@ -1,16 +1,8 @@
+-- `cases::write_row` meets its contract. Assumes nothing.
 use borrow.Author.Needs.{needs}
-use mathlib.Core.Path.{_≡_}
 use Prim.Native.Nat.{_≤_, _-_}
 use Rattle.cases.proofs.write_row.Statement.{statement}
 use Rattle.cases.proofs.write_row.Tie as tie
-use Rattle.cases.proofs.write_row.Reads as reads
-use Rattle.cases.proofs.write_row.Lts as lts
-use Rattle.cases.proofs.header.Reads as header-reads
-use Rattle.cases.proofs.low16.Reads as low16-reads
-use Rattle.cases.proofs.low8.Reads as low8-reads
-use Rattle.cases.proofs.print.Reads as print-reads
-use Rattle.cases.proofs.print_number.Reads as print-number-reads
-use Rattle.cases.proofs.write_first.Reads as write-first-reads
 
 abbrev Inv-loop : tie.InvT-loop
 Inv-loop w i₀ i = i ≤ 9
@@ -18,119 +10,90 @@ Inv-loop w i₀ i = i ≤ 9
 abbrev μ-loop : tie.MeasureT-loop
 μ-loop w i₀ i = 9 - i
 
--- src/main.rt:261:11
 slice-aggregate-print : tie.Need-slice-aggregate-print Inv-loop μ-loop
 slice-aggregate-print c = search needs
 
--- src/main.rt:261:5
 print-requires : tie.Need-print-requires Inv-loop μ-loop
 print-requires c κs = search needs
 
--- src/main.rt:262:5
 loop-holds : tie.Need-loop-holds Inv-loop μ-loop
 loop-holds c = search needs
 
--- src/main.rt:263:22
 mul-print-number : tie.Need-mul-print-number Inv-loop μ-loop
 mul-print-number c = search needs
 
--- src/main.rt:263:22
 array-read-print-number : tie.Need-array-read-print-number Inv-loop μ-loop
 array-read-print-number c = search needs
 
--- src/main.rt:263:22
 cast-print-number : tie.Need-cast-print-number Inv-loop μ-loop
 cast-print-number c = search needs
 
--- src/main.rt:263:9
 print-number-requires : tie.Need-print-number-requires Inv-loop μ-loop
 print-number-requires c κs = search needs
 
--- src/main.rt:262:9
 add-i : tie.Need-add-i Inv-loop μ-loop
 add-i c = search needs
 
--- src/main.rt:262:5
 loop-less : tie.Need-loop-less Inv-loop μ-loop
 loop-less c = search needs
 
--- src/main.rt:262:5
 loop-again : tie.Need-loop-again Inv-loop μ-loop
 loop-again c = search needs
 
--- src/main.rt:266:21
 array-read-low8 : tie.Need-array-read-low8 Inv-loop μ-loop
 array-read-low8 c = search needs
 
--- src/main.rt:266:16
 low8-requires : tie.Need-low8-requires Inv-loop μ-loop
 low8-requires c κs = search needs
 
--- src/main.rt:266:33
 array-read-low8-2 : tie.Need-array-read-low8-2 Inv-loop μ-loop
 array-read-low8-2 c = search needs
 
--- src/main.rt:266:28
 low8-requires-2 : tie.Need-low8-requires-2 Inv-loop μ-loop
 low8-requires-2 c κs = search needs
 
--- src/main.rt:266:45
 array-read-low8-3 : tie.Need-array-read-low8-3 Inv-loop μ-loop
 array-read-low8-3 c = search needs
 
--- src/main.rt:266:40
 low8-requires-3 : tie.Need-low8-requires-3 Inv-loop μ-loop
 low8-requires-3 c κs = search needs
 
--- src/main.rt:266:9
 header-requires : tie.Need-header-requires Inv-loop μ-loop
 header-requires c κs = search needs
 
--- src/main.rt:267:10
 array-read-t30 : tie.Need-array-read-t30 Inv-loop μ-loop
 array-read-t30 c = search needs
 
--- src/main.rt:267:16
 array-read-t33 : tie.Need-array-read-t33 Inv-loop μ-loop
 array-read-t33 c = search needs
 
--- src/main.rt:268:16
 array-read-low16 : tie.Need-array-read-low16 Inv-loop μ-loop
 array-read-low16 c = search needs
 
--- src/main.rt:268:10
 low16-requires : tie.Need-low16-requires Inv-loop μ-loop
 low16-requires c κs = search needs
 
--- src/main.rt:268:29
 array-read-low16-2 : tie.Need-array-read-low16-2 Inv-loop μ-loop
 array-read-low16-2 c = search needs
 
--- src/main.rt:268:23
 low16-requires-2 : tie.Need-low16-requires-2 Inv-loop μ-loop
 low16-requires-2 c κs = search needs
 
--- src/main.rt:269:9
 array-read-write-first : tie.Need-array-read-write-first Inv-loop μ-loop
 array-read-write-first c = search needs
 
--- src/main.rt:269:9
 cast-write-first : tie.Need-cast-write-first Inv-loop μ-loop
 cast-write-first c = search needs
 
--- src/main.rt:270:9
 array-read-write-first-2 : tie.Need-array-read-write-first-2 Inv-loop μ-loop
 array-read-write-first-2 c = search needs
 
--- src/main.rt:270:9
 cast-write-first-2 : tie.Need-cast-write-first-2 Inv-loop μ-loop
 cast-write-first-2 c = search needs
 
--- src/main.rt:265:5
 write-first-requires : tie.Need-write-first-requires Inv-loop μ-loop
 write-first-requires c κs = search needs
 
--- src/main.rt:260:1
 returns : tie.Need-returns Inv-loop μ-loop
 returns c = search needs
 

@@ -1,14 +1,8 @@
+-- `schedule_cases::case` meets its contract. Assumes nothing.
 use borrow.Author.Needs.{needs}
 use Prim.Native.Nat.{_≤_, _-_}
 use Rattle.schedule_cases.proofs.case.Statement.{statement}
 use Rattle.schedule_cases.proofs.case.Tie as tie
-use Rattle.schedule_cases.proofs.case.Reads as reads
-use Rattle.schedule_cases.proofs.case.Lts as lts
-use Rattle.schedule_cases.proofs.length_of.Reads as length-of-reads
-use Rattle.schedule_cases.proofs.print.Reads as print-reads
-use Rattle.schedule_cases.proofs.print_number.Reads as print-number-reads
-use Rattle.schedule_cases.proofs.sample.Reads as sample-reads
-use Rattle.schedule_cases.proofs.show_first.Reads as show-first-reads
 
 abbrev Inv-loop : tie.InvT-loop
 Inv-loop row i n k₀ k = k ≤ 12
@@ -16,99 +10,75 @@ Inv-loop row i n k₀ k = k ≤ 12
 abbrev μ-loop : tie.MeasureT-loop
 μ-loop row i n k₀ k = 12 - k
 
--- src/main.rt:129:13
 array-read-i : tie.Need-array-read-i Inv-loop μ-loop
 array-read-i c = search needs
 
--- src/main.rt:129:13
 cast-i : tie.Need-cast-i Inv-loop μ-loop
 cast-i c = search needs
 
--- src/main.rt:130:13
 array-read-n : tie.Need-array-read-n Inv-loop μ-loop
 array-read-n c = search needs
 
--- src/main.rt:130:13
 cast-n : tie.Need-cast-n Inv-loop μ-loop
 cast-n c = search needs
 
--- src/main.rt:131:11
 slice-aggregate-print : tie.Need-slice-aggregate-print Inv-loop μ-loop
 slice-aggregate-print c = search needs
 
--- src/main.rt:131:5
 print-requires : tie.Need-print-requires Inv-loop μ-loop
 print-requires c κs = search needs
 
--- src/main.rt:132:18
 array-read-print-number : tie.Need-array-read-print-number Inv-loop μ-loop
 array-read-print-number c = search needs
 
--- src/main.rt:132:18
 cast-print-number : tie.Need-cast-print-number Inv-loop μ-loop
 cast-print-number c = search needs
 
--- src/main.rt:132:5
 print-number-requires : tie.Need-print-number-requires Inv-loop μ-loop
 print-number-requires c κs = search needs
 
--- src/main.rt:133:11
 slice-aggregate-print-2 : tie.Need-slice-aggregate-print-2 Inv-loop μ-loop
 slice-aggregate-print-2 c = search needs
 
--- src/main.rt:133:5
 print-requires-2 : tie.Need-print-requires-2 Inv-loop μ-loop
 print-requires-2 c κs = search needs
 
--- src/main.rt:134:5
 loop-holds : tie.Need-loop-holds Inv-loop μ-loop
 loop-holds c = search needs
 
--- src/main.rt:136:30
 add-print-number : tie.Need-add-print-number Inv-loop μ-loop
 add-print-number c = search needs
 
--- src/main.rt:136:26
 mul-print-number : tie.Need-mul-print-number Inv-loop μ-loop
 mul-print-number c = search needs
 
--- src/main.rt:136:26
 array-read-print-number-2 : tie.Need-array-read-print-number-2 Inv-loop μ-loop
 array-read-print-number-2 c = search needs
 
--- src/main.rt:136:26
 cast-print-number-2 : tie.Need-cast-print-number-2 Inv-loop μ-loop
 cast-print-number-2 c = search needs
 
--- src/main.rt:136:13
 print-number-requires-2 : tie.Need-print-number-requires-2 Inv-loop μ-loop
 print-number-requires-2 c κs = search needs
 
--- src/main.rt:134:9
 add-k : tie.Need-add-k Inv-loop μ-loop
 add-k c = search needs
 
--- src/main.rt:134:5
 loop-less : tie.Need-loop-less Inv-loop μ-loop
 loop-less c = search needs
 
--- src/main.rt:134:5
 loop-again : tie.Need-loop-again Inv-loop μ-loop
 loop-again c = search needs
 
--- src/main.rt:139:16
 sample-requires : tie.Need-sample-requires Inv-loop μ-loop
 sample-requires c κs = search needs
 
--- src/main.rt:139:27
 length-of-requires : tie.Need-length-of-requires Inv-loop μ-loop
 length-of-requires c κs = search needs
 
--- src/main.rt:139:5
 show-first-requires : tie.Need-show-first-requires Inv-loop μ-loop
 show-first-requires c κs = search needs
 
--- src/main.rt:128:1
 returns : tie.Need-returns Inv-loop μ-loop
 returns c = search needs
 

@@ -1,10 +1,8 @@
+-- `schedule_cases::main` meets its contract. Assumes nothing.
 use borrow.Author.Needs.{needs}
 use Prim.Native.Nat.{_≤_, _-_}
 use Rattle.schedule_cases.proofs.main.Statement.{statement}
 use Rattle.schedule_cases.proofs.main.Tie as tie
-use Rattle.schedule_cases.proofs.main.Reads as reads
-use Rattle.schedule_cases.proofs.main.Lts as lts
-use Rattle.schedule_cases.proofs.case.Reads as case-reads
 
 abbrev Inv-loop : tie.InvT-loop
 Inv-loop k₀ k = k ≤ 31
@@ -12,35 +10,27 @@ Inv-loop k₀ k = k ≤ 31
 abbrev μ-loop : tie.MeasureT-loop
 μ-loop k₀ k = 31 - k
 
--- src/main.rt:143:5
 loop-holds : tie.Need-loop-holds Inv-loop μ-loop
 loop-holds c = search needs
 
--- src/main.rt:144:14
 mul-case : tie.Need-mul-case Inv-loop μ-loop
 mul-case c = search needs
 
--- src/main.rt:144:14
 array-copy-out-case : tie.Need-array-copy-out-case Inv-loop μ-loop
 array-copy-out-case c = search needs
 
--- src/main.rt:144:9
 case-requires : tie.Need-case-requires Inv-loop μ-loop
 case-requires c κs = search needs
 
--- src/main.rt:143:9
 add-k : tie.Need-add-k Inv-loop μ-loop
 add-k c = search needs
 
--- src/main.rt:143:5
 loop-less : tie.Need-loop-less Inv-loop μ-loop
 loop-less c = search needs
 
--- src/main.rt:143:5
 loop-again : tie.Need-loop-again Inv-loop μ-loop
 loop-again c = search needs
 
--- src/main.rt:142:1
 returns : tie.Need-returns Inv-loop μ-loop
 returns c = search needs
 

@@ -1,39 +1,28 @@
+-- `sheet::answer` meets its contract. Assumes nothing.
 use borrow.Author.Needs.{needs}
 use Rattle.report.specs.OutputLaws.{sheet-stands, sheet-refuses}
-use mathlib.Core.Path.{_≡_, sym, _∙_}
+use mathlib.Core.Path.{sym, _∙_}
 use Rattle.sheet.proofs.answer.Statement.{statement}
 use Rattle.sheet.proofs.answer.Tie as tie
-use Rattle.sheet.proofs.answer.Reads as reads
-use Rattle.sheet.proofs.answer.Lts as lts
-use Rattle.report.proofs.sheet.Reads as sheet-reads
-use Rattle.sheet.proofs.refuse.Reads as refuse-reads
-use Rattle.sheet.proofs.size.Reads as size-reads
 
--- src/main.rt:51:9
 sheet-requires : tie.Need-sheet-requires
 sheet-requires c κs = search needs
 
--- src/main.rt:53:25
 enum-known-printed : tie.Need-enum-known-printed
 enum-known-printed c = search needs
 
--- src/main.rt:53:31
 size-requires : tie.Need-size-requires
 size-requires c κs = search needs
 
--- src/main.rt:54:26
 enum-known-printed-2 : tie.Need-enum-known-printed-2
 enum-known-printed-2 c = search needs
 
--- src/main.rt:54:32
 refuse-requires : tie.Need-refuse-requires
 refuse-requires c κs = search needs
 
--- src/main.rt:47:1
 same-length : tie.Need-same-length
 same-length c = search needs
 
--- src/main.rt:47:1
 returns : tie.Need-returns
 returns c =
     let s = c .before .before .before .before .before .before .before .before .before .before in
@@ -41,11 +30,9 @@ returns c =
     rw (c .size .ensures)
     (sheet-stands (s .args .log .now) (s .args .text .now) (s .pre) _ _ (sym (e .0) ∙ c .before .before .printed .given .1) (e .1))
 
--- src/main.rt:47:1
 same-length-2 : tie.Need-same-length-2
 same-length-2 c = search needs
 
--- src/main.rt:47:1
 returns-2 : tie.Need-returns-2
 returns-2 c =
     let s = c .before .before .before .before .before .before .before .before .before .before .before .before .before in

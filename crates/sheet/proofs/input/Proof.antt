@@ -1,13 +1,11 @@
+-- `sheet::input` meets its contract. Assumes nothing.
 use mathlib.Core.Path.{sym}
 use Prim.Native.Nat.{ℕ}
 use lib.ListN.{length-replicate}
 use Rattle.report.specs.Output.{limit}
 use Rattle.sheet.proofs.input.Statement.{statement}
 use Rattle.sheet.proofs.input.Tie as tie
-use Rattle.sheet.proofs.input.Reads as reads
-use Rattle.sheet.proofs.input.Lts as lts
 
--- src/main.rt:15:1
 returns : tie.Need-returns
 unfolding limit
 returns c =

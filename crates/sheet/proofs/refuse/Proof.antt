@@ -1,36 +1,27 @@
+-- `sheet::refuse` meets its contract. Assumes nothing.
 use borrow.Author.Needs.{needs}
 use Rattle.report.specs.OutputLaws.{line-stands, line-printed}
 use Rattle.report.specs.TextLaws.{refusal-length}
 use native.Mathlib.Omega.{arith}
-use mathlib.Core.Path.{_≡_, sym, _∙_}
+use mathlib.Core.Path.{sym, _∙_}
 use Rattle.sheet.proofs.refuse.Statement.{statement}
 use Rattle.sheet.proofs.refuse.Tie as tie
-use Rattle.sheet.proofs.refuse.Reads as reads
-use Rattle.sheet.proofs.refuse.Lts as lts
-use Rattle.report.proofs.refusal_line.Reads as refusal-line-reads
-use Rattle.sheet.proofs.size.Reads as size-reads
 
--- src/main.rt:39:9
 refusal-line-requires : tie.Need-refusal-line-requires
 refusal-line-requires c κs = search needs
 
--- src/main.rt:41:25
 enum-known-printed : tie.Need-enum-known-printed
 enum-known-printed c = search needs
 
--- src/main.rt:41:31
 size-requires : tie.Need-size-requires
 size-requires c κs = search needs
 
--- src/main.rt:42:32
 enum-told : tie.Need-enum-told
 enum-told c = search needs
 
--- src/main.rt:35:1
 same-length : tie.Need-same-length
 same-length c = search needs
 
--- src/main.rt:35:1
 returns : tie.Need-returns
 returns c =
     let s = c .before .before .before .before .before .before .before .before .before in
@@ -39,11 +30,9 @@ returns c =
     rw (c .size .ensures)
     (line-stands r (s .args .text .now) _ _ (omega (arith, refusal-length r (search needs) (search needs))) (sym (e .0) ∙ c .before .before .printed .given .1) (e .1))
 
--- src/main.rt:35:1
 same-length-2 : tie.Need-same-length-2
 same-length-2 c = search needs
 
--- src/main.rt:35:1
 returns-2 : tie.Need-returns-2
 returns-2 c =
     let s = c .before .before .before .before .before .before .before in

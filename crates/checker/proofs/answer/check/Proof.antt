@@ -1,29 +1,19 @@
+-- `checker::answer::check` meets its contract. Assumes nothing.
 use borrow.Author.Needs.{needs}
-use mathlib.Core.Path.{_≡_, refl, sym, ap, _∙_}
+use mathlib.Core.Path.{sym, _∙_}
 use Rattle.log.specs.Fields.{class-of}
-use Rattle.log.specs.Conditions.{verdict-of}
 use Rattle.model.specs.LogRequests.{prices-in}
 use Rattle.checker.specs.Answers.{checked}
 use Rattle.checker.specs.AnswerLaws.{log-refused, log-accepted, sums-fit, prices-fit}
 use Rattle.checker.proofs.answer.check.Statement.{statement}
 use Rattle.checker.proofs.answer.check.Tie as tie
-use Rattle.checker.proofs.answer.check.Reads as reads
-use Rattle.checker.proofs.answer.check.Lts as lts
-use Rattle.base.proofs.bytes.at.Reads as at-reads
-use Rattle.checker.proofs.answer.cost.Reads as cost-reads
-use Rattle.checker.proofs.conditions.schedule_fault.Reads as schedule-fault-reads
-use Rattle.log.proofs.verdict.Reads as verdict-reads
-use Rattle.prices.proofs.of_class.Reads as of-class-reads
 
--- src/answer.rt:98:9
 verdict-requires : tie.Need-verdict-requires
 verdict-requires c κs = search needs
 
--- src/answer.rt:99:29
 enum-known-v : tie.Need-enum-known-v
 enum-known-v c = search needs
 
--- src/answer.rt:100:9
 returns : tie.Need-returns
 returns c =
     let a = c .before .before .before .before .before .before .args in
@@ -32,15 +22,12 @@ returns c =
 enum-told : tie.Need-enum-told
 enum-told c = search needs
 
--- src/answer.rt:102:9
 schedule-fault-requires : tie.Need-schedule-fault-requires
 schedule-fault-requires c κs = search needs
 
--- src/answer.rt:103:29
 enum-known-v-2 : tie.Need-enum-known-v-2
 enum-known-v-2 c = search needs
 
--- src/answer.rt:104:9
 returns-2 : tie.Need-returns-2
 unfolding checked
 returns-2 c =
@@ -50,15 +37,12 @@ returns-2 c =
 enum-told-2 : tie.Need-enum-told-2
 enum-told-2 c = search needs
 
--- src/answer.rt:106:33
 at-requires : tie.Need-at-requires
 at-requires c κs = search needs
 
--- src/answer.rt:106:24
 of-class-requires : tie.Need-of-class-requires
 of-class-requires c κs = search needs
 
--- src/answer.rt:106:19
 cost-requires : tie.Need-cost-requires
 unfolding class-of
 cost-requires c κs =
@@ -68,7 +52,6 @@ cost-requires c κs =
     let s = sums-fit (a .log .now) (a .rows .now) passed (sym (c .before .before .before .before .schedule-fault .ensures) ∙ c .before .before .enum-told2 .given .1) in
     rw (c .of-class .ensures, c .before .at .ensures) (p .0, p .1, s .0, s .1)
 
--- src/answer.rt:95:1
 returns-3 : tie.Need-returns-3
 unfolding checked prices-in class-of
 returns-3 c =

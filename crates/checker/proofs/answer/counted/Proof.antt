@@ -1,5 +1,6 @@
+-- `checker::answer::counted` meets its contract. Assumes nothing.
 use borrow.Author.Needs.{needs}
-use mathlib.Core.Path.{_≡_, refl, sym, ap, _∙_}
+use mathlib.Core.Path.{_≡_, refl, _∙_}
 use Prim.Native.Nat.{_≤_, _-_}
 use native.Mathlib.Omega.{arith}
 use Rattle.model.specs.Sums.{total}
@@ -9,10 +10,6 @@ use Rattle.model.specs.Checking.{row-count}
 use Rattle.checker.specs.CostLaws.{total-read, total-within}
 use Rattle.checker.proofs.answer.counted.Statement.{statement}
 use Rattle.checker.proofs.answer.counted.Tie as tie
-use Rattle.checker.proofs.answer.counted.Reads as reads
-use Rattle.checker.proofs.answer.counted.Lts as lts
-use Rattle.checker.proofs.answer.with_row.Reads as with-row-reads
-use Rattle.checker.proofs.rows.row.Reads as row-reads
 
 abbrev Inv-loop : tie.InvT-loop
 Inv-loop ns n s₀ i₀ s i = (i ≤ n) × (s .seconds ≡ total length-of (rows-upto ns i)) × (s .transfers ≡ total is-transfer (rows-upto ns i))
@@ -20,16 +17,13 @@ Inv-loop ns n s₀ i₀ s i = (i ≤ n) × (s .seconds ≡ total length-of (rows
 abbrev μ-loop : tie.MeasureT-loop
 μ-loop ns n s₀ i₀ s i = n - i
 
--- src/answer.rt:78:5
 loop-holds : tie.Need-loop-holds Inv-loop μ-loop
 unfolding rows-upto total
 loop-holds c = (search needs, refl, refl)
 
--- src/answer.rt:79:25
 row-requires : tie.Need-row-requires Inv-loop μ-loop
 row-requires c κs = search needs
 
--- src/answer.rt:79:9
 with-row-requires : tie.Need-with-row-requires Inv-loop μ-loop
 unfolding row-count
 with-row-requires c κs =
@@ -39,15 +33,12 @@ with-row-requires c κs =
       omega (arith, total-within is-transfer ns (l .i) _ _ (search needs) (c .row .ensures) (l .inv .2)),
     )
 
--- src/answer.rt:80:9
 add-i : tie.Need-add-i Inv-loop μ-loop
 add-i c = search needs
 
--- src/answer.rt:78:5
 loop-less : tie.Need-loop-less Inv-loop μ-loop
 loop-less c = search needs
 
--- src/answer.rt:78:5
 loop-again : tie.Need-loop-again Inv-loop μ-loop
 loop-again c =
     let ns = c .before .before .before .before .before .args .ns .now in
@@ -57,7 +48,6 @@ loop-again c =
       c .with-row .ensures .1 ∙ total-read is-transfer ns (l .i) _ _ (c .before .row .ensures) (l .inv .2),
     )
 
--- src/answer.rt:68:1
 returns : tie.Need-returns Inv-loop μ-loop
 unfolding rows-of row-count
 returns c =

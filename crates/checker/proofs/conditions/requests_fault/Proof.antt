@@ -1,6 +1,7 @@
+-- `checker::conditions::requests_fault` meets its contract. Assumes nothing.
 use borrow.Author.Needs.{needs}
 use borrow.Author.Tests.{not-true, not-false}
-use mathlib.Core.Path.{_≡_, refl, sym, ap, _∙_}
+use mathlib.Core.Path.{_≡_, refl, sym}
 use Prim.Native.Nat.{_≤_, _-_}
 use native.Mathlib.Omega.{arith}
 use native.Mathlib.Numerals.{add-one}
@@ -13,12 +14,6 @@ use Rattle.checker.specs.Quick.{serve-test}
 use Rattle.checker.specs.QuickSteps.{serve-found}
 use Rattle.checker.proofs.conditions.requests_fault.Statement.{statement}
 use Rattle.checker.proofs.conditions.requests_fault.Tie as tie
-use Rattle.checker.proofs.conditions.requests_fault.Reads as reads
-use Rattle.checker.proofs.conditions.requests_fault.Lts as lts
-use Rattle.base.proofs.bytes.at16.Reads as at16-reads
-use Rattle.checker.proofs.conditions.place.Reads as place-reads
-use Rattle.checker.proofs.conditions.served.Reads as served-reads
-use Rattle.checker.proofs.conditions.size.Reads as size-reads
 
 abbrev Inv-loop : tie.InvT-loop
 Inv-loop log ns n i₀ i = (i ≤ n) × (first (each (serve-test log ns) i) ≡ Passed)
@@ -26,28 +21,22 @@ Inv-loop log ns n i₀ i = (i ≤ n) × (first (each (serve-test log ns) i) ≡ 
 abbrev μ-loop : tie.MeasureT-loop
 μ-loop log ns n i₀ i = n - i
 
--- src/conditions.rt:164:9
 at16-requires : tie.Need-at16-requires Inv-loop μ-loop
 at16-requires c κs = search needs
 
--- src/conditions.rt:166:5
 loop-holds : tie.Need-loop-holds Inv-loop μ-loop
 unfolding first each
 loop-holds c = (search needs, refl)
 
--- src/conditions.rt:167:13
 served-requires : tie.Need-served-requires Inv-loop μ-loop
 served-requires c κs = search needs
 
--- src/conditions.rt:170:30
 size-requires : tie.Need-size-requires Inv-loop μ-loop
 size-requires c κs = search needs
 
--- src/conditions.rt:170:24
 place-requires : tie.Need-place-requires Inv-loop μ-loop
 place-requires c κs = search needs
 
--- src/conditions.rt:168:13
 returns : tie.Need-returns Inv-loop μ-loop
 unfolding request-count
 returns c =
@@ -57,15 +46,12 @@ returns c =
     rw (c .place .ensures, c .before .size .ensures .0)
     (sym (each-refused f (l .i) (request-count (a .log .now)) _ (search needs) (l .inv .1) (rw (not-true (c .before .before .before .served .result) (c .before .before .if1 .taken)) at (serve-found (a .log .now) (a .ns .now) (l .i) _ (c .before .before .before .served .ensures)))))
 
--- src/conditions.rt:173:9
 add-i : tie.Need-add-i Inv-loop μ-loop
 add-i c = search needs
 
--- src/conditions.rt:166:5
 loop-less : tie.Need-loop-less Inv-loop μ-loop
 loop-less c = search needs
 
--- src/conditions.rt:166:5
 loop-again : tie.Need-loop-again Inv-loop μ-loop
 loop-again c =
     let a = c .before .before .before .before .before .before .before .args in
@@ -73,7 +59,6 @@ loop-again c =
     let f = serve-test (a .log .now) (a .ns .now) in
     (search needs, rw (add-one (l .i)) (each-more f (l .i) (l .inv .1) (rw (not-false (c .before .served .result) (c .if1 .left)) at (serve-found (a .log .now) (a .ns .now) (l .i) _ (c .before .served .ensures)))))
 
--- src/conditions.rt:161:1
 returns-2 : tie.Need-returns-2 Inv-loop μ-loop
 unfolding request-count
 returns-2 c =

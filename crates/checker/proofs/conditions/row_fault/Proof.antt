@@ -1,43 +1,30 @@
+-- `checker::conditions::row_fault` meets its contract. Assumes nothing.
 use borrow.Author.Needs.{needs}
-use mathlib.Core.Path.{sym, _∙_}
+use mathlib.Core.Path.{sym}
 use Rattle.model.specs.Checking.{row-count}
 use Rattle.checker.specs.QuickSteps.{row-found}
 use Rattle.checker.proofs.conditions.row_fault.Statement.{statement}
 use Rattle.checker.proofs.conditions.row_fault.Tie as tie
-use Rattle.checker.proofs.conditions.row_fault.Reads as reads
-use Rattle.checker.proofs.conditions.row_fault.Lts as lts
-use Rattle.base.proofs.refusals.or_else.Reads as or-else-reads
-use Rattle.checker.proofs.conditions.misfits.Reads as misfits-reads
-use Rattle.checker.proofs.conditions.misplaced.Reads as misplaced-reads
-use Rattle.checker.proofs.conditions.place.Reads as place-reads
-use Rattle.checker.proofs.rows.row.Reads as row-reads
 
--- src/conditions.rt:92:9
 place-requires : tie.Need-place-requires
 unfolding row-count
 place-requires c κs = search needs
 
--- src/conditions.rt:93:62
 row-requires : tie.Need-row-requires
 row-requires c κs = search needs
 
--- src/conditions.rt:93:38
 misfits-requires : tie.Need-misfits-requires
 misfits-requires c κs = search needs
 
--- src/conditions.rt:93:9
 or-else-requires : tie.Need-or-else-requires
 or-else-requires c κs = search needs
 
--- src/conditions.rt:94:16
 misplaced-requires : tie.Need-misplaced-requires
 misplaced-requires c κs = search needs
 
--- src/conditions.rt:94:5
 or-else-requires-2 : tie.Need-or-else-requires-2
 or-else-requires-2 c κs = search needs
 
--- src/conditions.rt:88:1
 returns : tie.Need-returns
 returns c =
     let a = c .before .before .before .before .before .before .before .args in

@@ -1,3 +1,4 @@
+-- `checker::conditions::rows_fault` meets its contract. Assumes nothing.
 use borrow.Author.Needs.{needs}
 use mathlib.Core.Path.{_≡_, refl, sym, _∙_}
 use Prim.Native.Nat.{_≤_, _-_}
@@ -11,9 +12,6 @@ use Rattle.model.specs.Checking.{row-count}
 use Rattle.checker.specs.Quick.{row-tests}
 use Rattle.checker.proofs.conditions.rows_fault.Statement.{statement}
 use Rattle.checker.proofs.conditions.rows_fault.Tie as tie
-use Rattle.checker.proofs.conditions.rows_fault.Reads as reads
-use Rattle.checker.proofs.conditions.rows_fault.Lts as lts
-use Rattle.checker.proofs.conditions.row_fault.Reads as row-fault-reads
 
 abbrev Inv-loop : tie.InvT-loop
 Inv-loop ns count n last rows i₀ i = (i ≤ rows) × (first (each (row-tests count n last ns) i) ≡ Passed)
@@ -21,21 +19,17 @@ Inv-loop ns count n last rows i₀ i = (i ≤ rows) × (first (each (row-tests c
 abbrev μ-loop : tie.MeasureT-loop
 μ-loop ns count n last rows i₀ i = rows - i
 
--- src/conditions.rt:103:5
 loop-holds : tie.Need-loop-holds Inv-loop μ-loop
 unfolding first each
 loop-holds c = (search needs, refl)
 
--- src/conditions.rt:104:13
 row-fault-requires : tie.Need-row-fault-requires Inv-loop μ-loop
 unfolding row-count
 row-fault-requires c κs = search needs
 
--- src/conditions.rt:105:33
 enum-known-v : tie.Need-enum-known-v Inv-loop μ-loop
 enum-known-v c = search needs
 
--- src/conditions.rt:106:13
 returns : tie.Need-returns Inv-loop μ-loop
 unfolding row-count
 returns c =
@@ -47,15 +41,12 @@ returns c =
 enum-told : tie.Need-enum-told Inv-loop μ-loop
 enum-told c = search needs
 
--- src/conditions.rt:108:9
 add-i : tie.Need-add-i Inv-loop μ-loop
 add-i c = search needs
 
--- src/conditions.rt:103:5
 loop-less : tie.Need-loop-less Inv-loop μ-loop
 loop-less c = search needs
 
--- src/conditions.rt:103:5
 loop-again : tie.Need-loop-again Inv-loop μ-loop
 loop-again c =
     let a = c .before .before .before .before .before .before .args in
@@ -63,7 +54,6 @@ loop-again c =
     let f = row-tests (a .count) (a .n) (a .last) (a .ns .now) in
     (search needs, rw (add-one (l .i)) (each-more f (l .i) (l .inv .1) (sym (c .before .before .row-fault .ensures) ∙ c .enum-told .given .1)))
 
--- src/conditions.rt:98:1
 returns-2 : tie.Need-returns-2 Inv-loop μ-loop
 unfolding row-count
 returns-2 c =

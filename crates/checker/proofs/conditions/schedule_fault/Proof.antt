@@ -1,53 +1,37 @@
+-- `checker::conditions::schedule_fault` meets its contract. Assumes nothing.
 use borrow.Author.Needs.{needs}
-use mathlib.Core.Path.{_≡_, refl, sym, _∙_}
+use mathlib.Core.Path.{_∙_}
 use borrow.Author.Tests.{eq-eqb, ne-eqb}
 use Rattle.base.specs.Refusals.{first}
 use Rattle.log.specs.Fields.{server-count, home-of, request-count}
 use Rattle.checker.specs.QuickParts.{schedule-parts, row-part-read, copy-part-read}
 use Rattle.checker.proofs.conditions.schedule_fault.Statement.{statement}
 use Rattle.checker.proofs.conditions.schedule_fault.Tie as tie
-use Rattle.checker.proofs.conditions.schedule_fault.Reads as reads
-use Rattle.checker.proofs.conditions.schedule_fault.Lts as lts
-use Rattle.base.proofs.bytes.at.Reads as at-reads
-use Rattle.base.proofs.bytes.at16.Reads as at16-reads
-use Rattle.checker.proofs.copies.copies_fault.Reads as copies-fault-reads
-use Rattle.checker.proofs.conditions.last_second.Reads as last-second-reads
-use Rattle.checker.proofs.conditions.requests_fault.Reads as requests-fault-reads
-use Rattle.checker.proofs.conditions.rows_fault.Reads as rows-fault-reads
-use Rattle.checker.proofs.conditions.word8.Reads as word8-reads
 
--- src/conditions.rt:194:9
 returns : tie.Need-returns
 unfolding first
 returns c =
     let a = c .before .before .before .args in
     rw (schedule-parts (a .log .now) (a .ns .now), ne-eqb _ _ (c .if1 .taken))
 
--- src/conditions.rt:199:23
 at-requires : tie.Need-at-requires
 at-requires c κs = search needs
 
--- src/conditions.rt:199:9
 word8-requires : tie.Need-word8-requires
 word8-requires c κs = search needs
 
--- src/conditions.rt:200:35
 at16-requires : tie.Need-at16-requires
 at16-requires c κs = search needs
 
--- src/conditions.rt:200:49
 last-second-requires : tie.Need-last-second-requires
 last-second-requires c κs = search needs
 
--- src/conditions.rt:200:9
 rows-fault-requires : tie.Need-rows-fault-requires
 rows-fault-requires c κs = search needs
 
--- src/conditions.rt:201:29
 enum-known-v : tie.Need-enum-known-v
 enum-known-v c = search needs
 
--- src/conditions.rt:202:9
 returns-2 : tie.Need-returns-2
 unfolding first server-count request-count
 returns-2 c =
@@ -62,23 +46,18 @@ returns-2 c =
 enum-told : tie.Need-enum-told
 enum-told c = search needs
 
--- src/conditions.rt:204:42
 at-requires-2 : tie.Need-at-requires-2
 at-requires-2 c κs = search needs
 
--- src/conditions.rt:204:36
 word8-requires-2 : tie.Need-word8-requires-2
 word8-requires-2 c κs = search needs
 
--- src/conditions.rt:204:9
 copies-fault-requires : tie.Need-copies-fault-requires
 copies-fault-requires c κs = search needs
 
--- src/conditions.rt:205:29
 enum-known-v-2 : tie.Need-enum-known-v-2
 enum-known-v-2 c = search needs
 
--- src/conditions.rt:206:9
 returns-3 : tie.Need-returns-3
 unfolding first server-count request-count home-of
 returns-3 c =
@@ -96,11 +75,9 @@ returns-3 c =
 enum-told-2 : tie.Need-enum-told-2
 enum-told-2 c = search needs
 
--- src/conditions.rt:208:5
 requests-fault-requires : tie.Need-requests-fault-requires
 requests-fault-requires c κs = search needs
 
--- src/conditions.rt:190:1
 returns-4 : tie.Need-returns-4
 unfolding first server-count request-count home-of
 returns-4 c =

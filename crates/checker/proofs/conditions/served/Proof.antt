@@ -1,67 +1,46 @@
+-- `checker::conditions::served` meets its contract. Assumes nothing.
 use borrow.Author.Needs.{needs}
 use Rattle.log.specs.Fields.{server-count, home-of}
 use Rattle.checker.specs.Quick.{served}
 use Rattle.checker.proofs.conditions.served.Statement.{statement}
 use Rattle.checker.proofs.conditions.served.Tie as tie
-use Rattle.checker.proofs.conditions.served.Reads as reads
-use Rattle.checker.proofs.conditions.served.Lts as lts
-use Rattle.base.proofs.bytes.at.Reads as at-reads
-use Rattle.base.proofs.bytes.at16.Reads as at16-reads
-use Rattle.base.proofs.bytes.at32.Reads as at32-reads
-use Rattle.checker.proofs.conditions.size.Reads as size-reads
-use Rattle.checker.proofs.conditions.stands.Reads as stands-reads
-use Rattle.checker.proofs.conditions.word16.Reads as word16-reads
-use Rattle.checker.proofs.conditions.word8.Reads as word8-reads
 
--- src/conditions.rt:122:17
 size-requires : tie.Need-size-requires
 size-requires c κs = search needs
 
--- src/conditions.rt:122:13
 mul-k : tie.Need-mul-k
 mul-k c = search needs
 
--- src/conditions.rt:123:28
 add-at32 : tie.Need-add-at32
 add-at32 c = search needs
 
--- src/conditions.rt:123:9
 at32-requires : tie.Need-at32-requires
 at32-requires c κs = search needs
 
--- src/conditions.rt:124:28
 add-at16 : tie.Need-add-at16
 add-at16 c = search needs
 
--- src/conditions.rt:124:9
 at16-requires : tie.Need-at16-requires
 at16-requires c κs = search needs
 
--- src/conditions.rt:125:22
 at-requires : tie.Need-at-requires
 at-requires c κs = search needs
 
--- src/conditions.rt:125:16
 word8-requires : tie.Need-word8-requires
 word8-requires c κs = search needs
 
--- src/conditions.rt:125:41
 at-requires-2 : tie.Need-at-requires-2
 at-requires-2 c κs = search needs
 
--- src/conditions.rt:125:35
 word8-requires-2 : tie.Need-word8-requires-2
 word8-requires-2 c κs = search needs
 
--- src/conditions.rt:125:62
 word16-requires : tie.Need-word16-requires
 word16-requires c κs = search needs
 
--- src/conditions.rt:125:5
 stands-requires : tie.Need-stands-requires
 stands-requires c κs = search needs
 
--- src/conditions.rt:119:1
 returns : tie.Need-returns
 unfolding served server-count home-of
 returns c = rw (c .stands .ensures, c .before .word16 .ensures, c .before .before .word82 .ensures, c .before .before .before .at2 .ensures, c .before .before .before .before .word8 .ensures, c .before .before .before .before .before .at .ensures, c .before .before .before .before .before .before .at16 .ensures, c .before .before .before .before .before .before .before .at32 .ensures, c .before .before .before .before .before .before .before .before .size .ensures .0)

@@ -1,3 +1,4 @@
+-- `checker::copies::aimed` meets its contract. Assumes nothing.
 use borrow.Author.Needs.{needs}
 use mathlib.Core.Path.{_≡_, refl, sym, _∙_}
 use mathlib.Core.Bool.{false}
@@ -8,10 +9,6 @@ use Rattle.checker.specs.Quick.{any-below}
 use Rattle.checker.specs.CopySteps.{aims-on, aimed-there, aimed-more}
 use Rattle.checker.proofs.copies.aimed.Statement.{statement}
 use Rattle.checker.proofs.copies.aimed.Tie as tie
-use Rattle.checker.proofs.copies.aimed.Reads as reads
-use Rattle.checker.proofs.copies.aimed.Lts as lts
-use Rattle.checker.proofs.copies.aims.Reads as aims-reads
-use Rattle.checker.proofs.rows.row.Reads as row-reads
 
 abbrev Inv-loop : tie.InvT-loop
 Inv-loop ns from to x i₀ i = (from ≤ i) × (i - from ≤ to - from) × (any-below (i - from) (aims-on ns x from) ≡ false)
@@ -19,37 +16,30 @@ Inv-loop ns from to x i₀ i = (from ≤ i) × (i - from ≤ to - from) × (any-
 abbrev μ-loop : tie.MeasureT-loop
 μ-loop ns from to x i₀ i = to - i
 
--- src/copies.rt:91:5
 loop-holds : tie.Need-loop-holds Inv-loop μ-loop
 unfolding any-below
 loop-holds c =
     let a = c .before .args in
     rw (sub-self (a .from)) (search needs, search needs, refl)
 
--- src/copies.rt:92:20
 row-requires : tie.Need-row-requires Inv-loop μ-loop
 row-requires c κs = search needs
 
--- src/copies.rt:92:12
 aims-requires : tie.Need-aims-requires Inv-loop μ-loop
 aims-requires c κs = search needs
 
--- src/copies.rt:93:13
 returns : tie.Need-returns Inv-loop μ-loop
 returns c =
     let a = c .before .before .before .before .before .before .args in
     let l = c .before .before .before .before .loop in
     sym (aimed-there (a .ns .now) (a .x) (a .from) (a .to) (l .i) _ (l .inv .0) (search needs) (c .before .before .row .ensures) (sym (c .before .aims .ensures) ∙ c .if1 .taken))
 
--- src/copies.rt:95:9
 add-i : tie.Need-add-i Inv-loop μ-loop
 add-i c = search needs
 
--- src/copies.rt:91:5
 loop-less : tie.Need-loop-less Inv-loop μ-loop
 loop-less c = search needs
 
--- src/copies.rt:91:5
 loop-again : tie.Need-loop-again Inv-loop μ-loop
 loop-again c =
     let a = c .before .before .before .before .before .before .args in
@@ -59,7 +49,6 @@ loop-again c =
       aimed-more (a .ns .now) (a .x) (a .from) (l .i) _ (l .inv .0) (l .inv .2) (c .before .before .row .ensures) (sym (c .before .aims .ensures) ∙ c .if1 .left),
     )
 
--- src/copies.rt:87:1
 returns-2 : tie.Need-returns-2 Inv-loop μ-loop
 returns-2 c =
     let l = c .before .loop in

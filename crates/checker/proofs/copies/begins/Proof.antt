@@ -1,14 +1,11 @@
+-- `checker::copies::begins` meets its contract. Assumes nothing.
 use borrow.Author.Tests.{eq-eqb, ne-eqb}
 use Rattle.checker.proofs.copies.begins.Statement.{statement}
 use Rattle.checker.proofs.copies.begins.Tie as tie
-use Rattle.checker.proofs.copies.begins.Reads as reads
-use Rattle.checker.proofs.copies.begins.Lts as lts
 
--- src/copies.rt:105:9
 returns : tie.Need-returns
 returns c = rw (eq-eqb _ _ (c .if1 .taken))
 
--- src/copies.rt:101:1
 returns-2 : tie.Need-returns-2
 returns-2 c = rw (ne-eqb _ _ (c .if1 .left))
 

@@ -1,37 +1,26 @@
+-- `checker::copies::fed` meets its contract. Assumes nothing.
 use borrow.Author.Needs.{needs}
 use Rattle.checker.specs.Quick.{fed}
 use Rattle.checker.specs.CopySteps.{fed-read}
 use Rattle.checker.proofs.copies.fed.Statement.{statement}
 use Rattle.checker.proofs.copies.fed.Tie as tie
-use Rattle.checker.proofs.copies.fed.Reads as reads
-use Rattle.checker.proofs.copies.fed.Lts as lts
-use Rattle.checker.proofs.copies.aimed.Reads as aimed-reads
-use Rattle.checker.proofs.copies.begins.Reads as begins-reads
-use Rattle.checker.proofs.search.after_second.Reads as after-second-reads
-use Rattle.checker.proofs.search.from_second.Reads as from-second-reads
 
--- src/copies.rt:114:8
 begins-requires : tie.Need-begins-requires
 begins-requires c κs = search needs
 
--- src/copies.rt:115:9
 returns : tie.Need-returns
 unfolding fed
 returns c = rw (← c .before .begins .ensures, c .if1 .taken)
 
--- src/copies.rt:117:15
 from-second-requires : tie.Need-from-second-requires
 from-second-requires c κs = search needs
 
--- src/copies.rt:117:35
 after-second-requires : tie.Need-after-second-requires
 after-second-requires c κs = search needs
 
--- src/copies.rt:117:5
 aimed-requires : tie.Need-aimed-requires
 aimed-requires c κs = search needs
 
--- src/copies.rt:111:1
 returns-2 : tie.Need-returns-2
 returns-2 c =
     let a = c .before .before .before .before .before .before .args in

@@ -1,3 +1,4 @@
+-- `checker::copies::holds_fault` meets its contract. Assumes nothing.
 use borrow.Author.Needs.{needs}
 use mathlib.Core.Path.{_≡_, refl, sym}
 use native.Mathlib.Numerals.{add-one}
@@ -12,10 +13,6 @@ use Rattle.checker.specs.Quick.{hold-test}
 use Rattle.checker.specs.CopySteps.{hold-found}
 use Rattle.checker.proofs.copies.holds_fault.Statement.{statement}
 use Rattle.checker.proofs.copies.holds_fault.Tie as tie
-use Rattle.checker.proofs.copies.holds_fault.Reads as reads
-use Rattle.checker.proofs.copies.holds_fault.Lts as lts
-use Rattle.checker.proofs.copies.fails.Reads as fails-reads
-use Rattle.checker.proofs.copies.place.Reads as place-reads
 
 abbrev Inv-loop : tie.InvT-loop
 Inv-loop ns home low holds i₀ i = (i ≤ holds) × (first (each (hold-test home ns low) i) ≡ Passed)
@@ -23,21 +20,17 @@ Inv-loop ns home low holds i₀ i = (i ≤ holds) × (first (each (hold-test hom
 abbrev μ-loop : tie.MeasureT-loop
 μ-loop ns home low holds i₀ i = holds - i
 
--- src/copies.rt:193:5
 loop-holds : tie.Need-loop-holds Inv-loop μ-loop
 unfolding first each
 loop-holds c = (search needs, refl)
 
--- src/copies.rt:194:12
 fails-requires : tie.Need-fails-requires Inv-loop μ-loop
 fails-requires c κs = search needs
 
--- src/copies.rt:197:24
 place-requires : tie.Need-place-requires Inv-loop μ-loop
 unfolding row-count
 place-requires c κs = search needs
 
--- src/copies.rt:195:13
 returns : tie.Need-returns Inv-loop μ-loop
 returns c =
     let a = c .before .before .before .before .before .before .args in
@@ -45,22 +38,18 @@ returns c =
     rw (c .place .ensures)
     (sym (each-refused (hold-test (a .home) (a .ns .now) (a .low)) (l .i) (a .holds) _ (search needs) (l .inv .1) (rw (c .before .if1 .taken) at (hold-found (a .home) (a .ns .now) (a .low) (l .i) _ (c .before .before .fails .ensures)))))
 
--- src/copies.rt:200:9
 add-i : tie.Need-add-i Inv-loop μ-loop
 add-i c = search needs
 
--- src/copies.rt:193:5
 loop-less : tie.Need-loop-less Inv-loop μ-loop
 loop-less c = search needs
 
--- src/copies.rt:193:5
 loop-again : tie.Need-loop-again Inv-loop μ-loop
 loop-again c =
     let a = c .before .before .before .before .before .args in
     let l = c .before .before .before .loop in
     (search needs, rw (add-one (l .i)) (each-more (hold-test (a .home) (a .ns .now) (a .low)) (l .i) (l .inv .1) (rw (c .if1 .left) at (hold-found (a .home) (a .ns .now) (a .low) (l .i) _ (c .before .fails .ensures)))))
 
--- src/copies.rt:188:1
 returns-2 : tie.Need-returns-2 Inv-loop μ-loop
 returns-2 c =
     let l = c .before .loop in

@@ -1,16 +1,13 @@
+-- `checker::copies::lower` meets its contract. Assumes nothing.
 use borrow.Author.Tests.{lt-ltb, le-ltb}
 use Rattle.checker.specs.Quick.{lower}
 use Rattle.checker.proofs.copies.lower.Statement.{statement}
 use Rattle.checker.proofs.copies.lower.Tie as tie
-use Rattle.checker.proofs.copies.lower.Reads as reads
-use Rattle.checker.proofs.copies.lower.Lts as lts
 
--- src/copies.rt:151:9
 returns : tie.Need-returns
 unfolding lower
 returns c = rw (lt-ltb _ _ (c .if1 .taken))
 
--- src/copies.rt:147:1
 returns-2 : tie.Need-returns-2
 unfolding lower
 returns-2 c = rw (le-ltb _ _ (c .if1 .left))

@@ -1,3 +1,4 @@
+-- `checker::copies::scan` meets its contract. Assumes nothing.
 use borrow.Author.Needs.{needs}
 use mathlib.Core.Path.{_≡_, refl, _∙_}
 use native.Mathlib.Nat.{sub-self}
@@ -9,15 +10,6 @@ use Rattle.checker.specs.QuickHolds.{lower-within}
 use Rattle.checker.specs.CopySteps.{starved-more, unbacked-more}
 use Rattle.checker.proofs.copies.scan.Statement.{statement}
 use Rattle.checker.proofs.copies.scan.Tie as tie
-use Rattle.checker.proofs.copies.scan.Reads as reads
-use Rattle.checker.proofs.copies.scan.Lts as lts
-use Rattle.checker.proofs.copies.lower.Reads as lower-reads
-use Rattle.checker.proofs.copies.seen_at.Reads as seen-at-reads
-use Rattle.checker.proofs.copies.unbacked.Reads as unbacked-reads
-use Rattle.checker.proofs.copies.unfed.Reads as unfed-reads
-use Rattle.checker.proofs.rows.row.Reads as row-reads
-use Rattle.checker.proofs.rows.second.Reads as second-reads
-use Rattle.checker.proofs.standing.standing.Reads as standing-reads
 
 abbrev Inv-loop : tie.InvT-loop
 Inv-loop ns count home from rows seen₀ low₀ late₀ i₀ seen low late i = (from ≤ i) × (i - from ≤ rows - from) × (low ≤ rows) × (low ≡ starved count home ns from (i - from)) × (late ≡ unbacked count home ns from (i - from)) × (seen .word ≡ standing-at count home ns (seen .second))
@@ -25,54 +17,42 @@ Inv-loop ns count home from rows seen₀ low₀ late₀ i₀ seen low late i = (
 abbrev μ-loop : tie.MeasureT-loop
 μ-loop ns count home from rows seen₀ low₀ late₀ i₀ seen low late i = rows - i
 
--- src/copies.rt:156:15
 standing-requires : tie.Need-standing-requires Inv-loop μ-loop
 standing-requires c κs = search needs
 
--- src/copies.rt:161:5
 loop-holds : tie.Need-loop-holds Inv-loop μ-loop
 unfolding starved unbacked row-count
 loop-holds c =
     let a = c .before .before .args in
     rw (sub-self (a .from)) (search needs, search needs, search needs, refl, refl, c .standing .ensures)
 
--- src/copies.rt:162:13
 row-requires : tie.Need-row-requires Inv-loop μ-loop
 row-requires c κs = search needs
 
--- src/copies.rt:163:47
 second-requires : tie.Need-second-requires Inv-loop μ-loop
 second-requires c κs = search needs
 
--- src/copies.rt:163:9
 seen-at-requires : tie.Need-seen-at-requires Inv-loop μ-loop
 seen-at-requires c κs = search needs
 
--- src/copies.rt:164:21
 unfed-requires : tie.Need-unfed-requires Inv-loop μ-loop
 unfed-requires c κs = search needs
 
--- src/copies.rt:164:9
 lower-requires : tie.Need-lower-requires Inv-loop μ-loop
 lower-requires c κs = search needs
 
--- src/copies.rt:165:22
 unbacked-requires : tie.Need-unbacked-requires Inv-loop μ-loop
 unbacked-requires c κs = search needs
 
--- src/copies.rt:165:9
 lower-requires-2 : tie.Need-lower-requires-2 Inv-loop μ-loop
 lower-requires-2 c κs = search needs
 
--- src/copies.rt:166:9
 add-i : tie.Need-add-i Inv-loop μ-loop
 add-i c = search needs
 
--- src/copies.rt:161:5
 loop-less : tie.Need-loop-less Inv-loop μ-loop
 loop-less c = search needs
 
--- src/copies.rt:161:5
 loop-again : tie.Need-loop-again Inv-loop μ-loop
 loop-again c =
     let a = c .before .before .before .before .before .before .before .before .before .before .before .args in
@@ -88,7 +68,6 @@ loop-again c =
       now,
     )
 
--- src/copies.rt:149:1
 returns : tie.Need-returns Inv-loop μ-loop
 unfolding row-count
 returns c =

@@ -1,22 +1,18 @@
+-- `checker::copies::starts` meets its contract. Assumes nothing.
 use borrow.Author.Tests.{eq-eqb, ne-eqb}
 use Rattle.model.specs.RowForm.{row-of}
 use Rattle.checker.specs.Quick.{starts}
 use Rattle.checker.proofs.copies.starts.Statement.{statement}
 use Rattle.checker.proofs.copies.starts.Tie as tie
-use Rattle.checker.proofs.copies.starts.Reads as reads
-use Rattle.checker.proofs.copies.starts.Lts as lts
 
--- src/copies.rt:125:9
 returns : tie.Need-returns
 unfolding row-of starts
 returns c = rw (ne-eqb _ _ (c .if1 .taken))
 
--- src/copies.rt:128:9
 returns-2 : tie.Need-returns-2
 unfolding row-of starts
 returns-2 c = rw (eq-eqb _ _ (c .before .before .if1 .left), ne-eqb _ _ (c .if2 .taken))
 
--- src/copies.rt:121:1
 returns-3 : tie.Need-returns-3
 unfolding row-of starts
 returns-3 c = rw (eq-eqb _ _ (c .before .before .before .if1 .left), eq-eqb _ _ (c .before .if2 .left))

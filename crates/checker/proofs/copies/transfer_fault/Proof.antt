@@ -1,3 +1,4 @@
+-- `checker::copies::transfer_fault` meets its contract. Assumes nothing.
 use borrow.Author.Needs.{needs}
 use mathlib.Core.Bool.{true, false}
 use borrow.Author.Tests.{lt-ltb, le-ltb}
@@ -5,22 +6,16 @@ use Rattle.model.specs.Checking.{row-count}
 use Rattle.checker.specs.CopySteps.{transfer-found}
 use Rattle.checker.proofs.copies.transfer_fault.Statement.{statement}
 use Rattle.checker.proofs.copies.transfer_fault.Tie as tie
-use Rattle.checker.proofs.copies.transfer_fault.Reads as reads
-use Rattle.checker.proofs.copies.transfer_fault.Lts as lts
-use Rattle.checker.proofs.copies.place.Reads as place-reads
 
--- src/copies.rt:219:20
 place-requires : tie.Need-place-requires
 place-requires c κs = search needs
 
--- src/copies.rt:217:9
 returns : tie.Need-returns
 unfolding row-count
 returns c =
     let a = c .before .before .before .args in
     rw (c .place .ensures, transfer-found (a .ns .now) (a .late) true (lt-ltb _ _ (c .before .if1 .taken)))
 
--- src/copies.rt:213:1
 returns-2 : tie.Need-returns-2
 unfolding row-count
 returns-2 c =

@@ -1,32 +1,25 @@
-use borrow.Author.Needs.{needs}
+-- `checker::rows::earlier` meets its contract. Assumes nothing.
 use borrow.Author.Tests.{lt-ltb, le-ltb, eq-eqb, ne-eqb}
 use Rattle.model.specs.RowForm.{earlier}
 use Rattle.checker.proofs.rows.earlier.Statement.{statement}
 use Rattle.checker.proofs.rows.earlier.Tie as tie
-use Rattle.checker.proofs.rows.earlier.Reads as reads
-use Rattle.checker.proofs.rows.earlier.Lts as lts
 
--- src/rows.rt:108:9
 returns : tie.Need-returns
 unfolding earlier
 returns c = rw (lt-ltb _ _ (c .if1 .taken))
 
--- src/rows.rt:111:9
 returns-2 : tie.Need-returns-2
 unfolding earlier
 returns-2 c = rw (le-ltb _ _ (c .before .before .before .if1 .left), ne-eqb _ _ (c .if2 .taken))
 
--- src/rows.rt:114:9
 returns-3 : tie.Need-returns-3
 unfolding earlier
 returns-3 c = rw (le-ltb _ _ (c .before .before .before .before .before .before .if1 .left), eq-eqb _ _ (c .before .before .before .if2 .left), lt-ltb _ _ (c .if3 .taken))
 
--- src/rows.rt:117:9
 returns-4 : tie.Need-returns-4
 unfolding earlier
 returns-4 c = rw (le-ltb _ _ (c .before .before .before .before .before .before .before .before .before .if1 .left), eq-eqb _ _ (c .before .before .before .before .before .before .if2 .left), le-ltb _ _ (c .before .before .before .if3 .left), ne-eqb _ _ (c .if4 .taken))
 
--- src/rows.rt:104:1
 returns-5 : tie.Need-returns-5
 unfolding earlier
 returns-5 c = rw (le-ltb _ _ (c .before .before .before .before .before .before .before .before .before .before .before .if1 .left), eq-eqb _ _ (c .before .before .before .before .before .before .before .before .if2 .left), le-ltb _ _ (c .before .before .before .before .before .if3 .left), eq-eqb _ _ (c .before .before .if4 .left))

@@ -1,27 +1,20 @@
+-- `checker::rows::fits` meets its contract. Assumes nothing.
 use borrow.Author.Needs.{needs}
 use borrow.Author.Tests.{eq-eqb, ne-eqb}
 use Rattle.model.specs.RowForm.{row-of}
 use Rattle.checker.proofs.rows.fits.Statement.{statement}
 use Rattle.checker.proofs.rows.fits.Tie as tie
-use Rattle.checker.proofs.rows.fits.Reads as reads
-use Rattle.checker.proofs.rows.fits.Lts as lts
-use Rattle.checker.proofs.rows.hold_fits.Reads as hold-fits-reads
-use Rattle.checker.proofs.rows.transfer_fits.Reads as transfer-fits-reads
 
--- src/rows.rt:85:9
 hold-fits-requires : tie.Need-hold-fits-requires
 hold-fits-requires c κs = search needs
 
--- src/rows.rt:85:9
 returns : tie.Need-returns
 unfolding row-of
 returns c = rw (eq-eqb _ _ (c .before .if1 .taken)) (c .hold-fits .ensures)
 
--- src/rows.rt:87:5
 transfer-fits-requires : tie.Need-transfer-fits-requires
 transfer-fits-requires c κs = search needs
 
--- src/rows.rt:81:1
 returns-2 : tie.Need-returns-2
 unfolding row-of
 returns-2 c = rw (ne-eqb _ _ (c .before .if1 .left)) (c .transfer-fits .ensures)

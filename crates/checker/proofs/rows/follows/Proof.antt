@@ -1,37 +1,28 @@
+-- `checker::rows::follows` meets its contract. Assumes nothing.
 use borrow.Author.Needs.{needs}
 use borrow.Author.Tests.{eq-eqb, ne-eqb}
 use Rattle.model.specs.RowForm.{row-of, follows}
 use Rattle.checker.proofs.rows.follows.Statement.{statement}
 use Rattle.checker.proofs.rows.follows.Tie as tie
-use Rattle.checker.proofs.rows.follows.Reads as reads
-use Rattle.checker.proofs.rows.follows.Lts as lts
-use Rattle.checker.proofs.rows.earlier.Reads as earlier-reads
-use Rattle.checker.proofs.rows.hold_follows.Reads as hold-follows-reads
 
--- src/rows.rt:128:13
 hold-follows-requires : tie.Need-hold-follows-requires
 hold-follows-requires c κs = search needs
 
--- src/rows.rt:128:13
 returns : tie.Need-returns
 unfolding row-of
 returns c = rw (eq-eqb _ _ (c .before .if2 .taken), eq-eqb _ _ (c .before .before .before .if1 .taken)) (c .hold-follows .ensures)
 
--- src/rows.rt:130:9
 returns-2 : tie.Need-returns-2
 unfolding row-of follows
 returns-2 c = rw (ne-eqb _ _ (c .if2 .left), eq-eqb _ _ (c .before .before .if1 .taken))
 
--- src/rows.rt:133:9
 returns-3 : tie.Need-returns-3
 unfolding row-of follows
 returns-3 c = rw (eq-eqb _ _ (c .if3 .taken), ne-eqb _ _ (c .before .before .if1 .left))
 
--- src/rows.rt:135:5
 earlier-requires : tie.Need-earlier-requires
 earlier-requires c κs = search needs
 
--- src/rows.rt:123:1
 returns-4 : tie.Need-returns-4
 unfolding row-of follows
 returns-4 c = rw (ne-eqb _ _ (c .before .if3 .left), ne-eqb _ _ (c .before .before .before .if1 .left)) (c .earlier .ensures)

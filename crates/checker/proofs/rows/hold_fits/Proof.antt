@@ -1,22 +1,17 @@
-use borrow.Author.Needs.{needs}
+-- `checker::rows::hold_fits` meets its contract. Assumes nothing.
 use borrow.Author.Tests.{lt-ltb, le-ltb}
 use Rattle.model.specs.RowForm.{fits}
 use Rattle.checker.proofs.rows.hold_fits.Statement.{statement}
 use Rattle.checker.proofs.rows.hold_fits.Tie as tie
-use Rattle.checker.proofs.rows.hold_fits.Reads as reads
-use Rattle.checker.proofs.rows.hold_fits.Lts as lts
 
--- src/rows.rt:56:9
 returns : tie.Need-returns
 unfolding fits
 returns c = rw (le-ltb _ _ (c .if1 .taken))
 
--- src/rows.rt:59:9
 returns-2 : tie.Need-returns-2
 unfolding fits
 returns-2 c = rw (lt-ltb _ _ (c .before .before .if1 .left), le-ltb _ _ (c .if2 .taken))
 
--- src/rows.rt:52:1
 returns-3 : tie.Need-returns-3
 unfolding fits
 returns-3 c = rw (lt-ltb _ _ (c .before .before .before .if1 .left), lt-ltb _ _ (c .before .if2 .left))

@@ -1,22 +1,17 @@
-use borrow.Author.Needs.{needs}
+-- `checker::rows::hold_follows` meets its contract. Assumes nothing.
 use borrow.Author.Tests.{lt-ltb, le-ltb, eq-eqb, ne-eqb}
 use Rattle.model.specs.RowForm.{follows}
 use Rattle.checker.proofs.rows.hold_follows.Statement.{statement}
 use Rattle.checker.proofs.rows.hold_follows.Tie as tie
-use Rattle.checker.proofs.rows.hold_follows.Reads as reads
-use Rattle.checker.proofs.rows.hold_follows.Lts as lts
 
--- src/rows.rt:95:9
 returns : tie.Need-returns
 unfolding follows
 returns c = rw (lt-ltb _ _ (c .if1 .taken))
 
--- src/rows.rt:98:9
 returns-2 : tie.Need-returns-2
 unfolding follows
 returns-2 c = rw (le-ltb _ _ (c .before .before .before .if1 .left), ne-eqb _ _ (c .if2 .taken))
 
--- src/rows.rt:91:1
 returns-3 : tie.Need-returns-3
 unfolding follows
 returns-3 c = rw (le-ltb _ _ (c .before .before .before .before .before .if1 .left), eq-eqb _ _ (c .before .before .if2 .left))

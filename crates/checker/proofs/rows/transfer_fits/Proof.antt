@@ -1,27 +1,21 @@
-use borrow.Author.Needs.{needs}
+-- `checker::rows::transfer_fits` meets its contract. Assumes nothing.
 use borrow.Author.Tests.{lt-ltb, le-ltb, eq-eqb, ne-eqb}
 use Rattle.model.specs.RowForm.{fits}
 use Rattle.checker.proofs.rows.transfer_fits.Statement.{statement}
 use Rattle.checker.proofs.rows.transfer_fits.Tie as tie
-use Rattle.checker.proofs.rows.transfer_fits.Reads as reads
-use Rattle.checker.proofs.rows.transfer_fits.Lts as lts
 
--- src/rows.rt:69:9
 returns : tie.Need-returns
 unfolding fits
 returns c = rw (le-ltb _ _ (c .if1 .taken))
 
--- src/rows.rt:72:9
 returns-2 : tie.Need-returns-2
 unfolding fits
 returns-2 c = rw (lt-ltb _ _ (c .before .before .if1 .left), le-ltb _ _ (c .if2 .taken))
 
--- src/rows.rt:75:9
 returns-3 : tie.Need-returns-3
 unfolding fits
 returns-3 c = rw (lt-ltb _ _ (c .before .before .before .before .if1 .left), lt-ltb _ _ (c .before .before .if2 .left), eq-eqb _ _ (c .if3 .taken))
 
--- src/rows.rt:65:1
 returns-4 : tie.Need-returns-4
 unfolding fits
 returns-4 c = rw (lt-ltb _ _ (c .before .before .before .before .before .if1 .left), lt-ltb _ _ (c .before .before .before .if2 .left), ne-eqb _ _ (c .before .if3 .left))

@@ -1,35 +1,26 @@
+-- `checker::search::after_holds` meets its contract. Assumes nothing.
 use borrow.Author.Needs.{needs}
 use mathlib.Core.Path.{ap, _∙_}
 use native.Mathlib.Omega.{arith}
 use Rattle.checker.specs.Search.{hold-key, position}
 use Rattle.checker.proofs.search.after_holds.Statement.{statement}
 use Rattle.checker.proofs.search.after_holds.Tie as tie
-use Rattle.checker.proofs.search.after_holds.Reads as reads
-use Rattle.checker.proofs.search.after_holds.Lts as lts
-use Rattle.checker.proofs.search.position.Reads as position-reads
-use Rattle.checker.proofs.search.wide.Reads as wide-reads
 
--- src/search.rt:71:28
 wide-requires : tie.Need-wide-requires
 wide-requires c κs = search needs
 
--- src/search.rt:71:18
 mul-position : tie.Need-mul-position
 mul-position c = search needs
 
--- src/search.rt:71:38
 wide-requires-2 : tie.Need-wide-requires-2
 wide-requires-2 c κs = search needs
 
--- src/search.rt:71:18
 add-position : tie.Need-add-position
 add-position c = search needs
 
--- src/search.rt:71:5
 position-requires : tie.Need-position-requires
 position-requires c κs = search needs
 
--- src/search.rt:68:1
 returns : tie.Need-returns
 unfolding hold-key
 returns c = c .position .ensures ∙ ap (position (c .before .before .before .before .args .ns .now)) (omega arith)

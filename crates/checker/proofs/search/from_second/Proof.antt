@@ -1,31 +1,23 @@
+-- `checker::search::from_second` meets its contract. Assumes nothing.
 use borrow.Author.Needs.{needs}
 use mathlib.Core.Path.{ap, _∙_}
 use native.Mathlib.Omega.{arith}
 use Rattle.checker.specs.Search.{second-key, position}
 use Rattle.checker.proofs.search.from_second.Statement.{statement}
 use Rattle.checker.proofs.search.from_second.Tie as tie
-use Rattle.checker.proofs.search.from_second.Reads as reads
-use Rattle.checker.proofs.search.from_second.Lts as lts
-use Rattle.checker.proofs.search.position.Reads as position-reads
-use Rattle.checker.proofs.search.wide.Reads as wide-reads
 
--- src/search.rt:78:37
 wide-requires : tie.Need-wide-requires
 wide-requires c κs = search needs
 
--- src/search.rt:78:30
 mul-position : tie.Need-mul-position
 mul-position c = search needs
 
--- src/search.rt:78:18
 add-position : tie.Need-add-position
 add-position c = search needs
 
--- src/search.rt:78:5
 position-requires : tie.Need-position-requires
 position-requires c κs = search needs
 
--- src/search.rt:75:1
 returns : tie.Need-returns
 unfolding second-key
 returns c = c .position .ensures ∙ ap (position (c .before .before .before .args .ns .now)) (omega arith)

@@ -1,3 +1,4 @@
+-- `checker::search::key` meets its contract. Assumes nothing.
 use borrow.Author.Needs.{needs}
 use borrow.Author.Tests.{eq-eqb, ne-eqb}
 use native.Mathlib.Omega.{arith}
@@ -5,64 +6,47 @@ use Rattle.model.specs.RowForm.{row-of}
 use Rattle.checker.specs.Search.{key, hold-key, second-key}
 use Rattle.checker.proofs.search.key.Statement.{statement}
 use Rattle.checker.proofs.search.key.Tie as tie
-use Rattle.checker.proofs.search.key.Reads as reads
-use Rattle.checker.proofs.search.key.Lts as lts
-use Rattle.checker.proofs.search.wide.Reads as wide-reads
 
--- src/search.rt:29:26
 wide-requires : tie.Need-wide-requires
 wide-requires c κs = search needs
 
--- src/search.rt:29:16
 mul-result : tie.Need-mul-result
 mul-result c = search needs
 
--- src/search.rt:29:38
 wide-requires-2 : tie.Need-wide-requires-2
 wide-requires-2 c κs = search needs
 
--- src/search.rt:29:16
 add-result : tie.Need-add-result
 add-result c = search needs
 
--- src/search.rt:29:9
 returns : tie.Need-returns
 unfolding row-of key hold-key
 returns c = rw (eq-eqb _ _ (c .before .before .if1 .taken)) (omega arith)
 
--- src/search.rt:31:24
 wide-requires-3 : tie.Need-wide-requires-3
 wide-requires-3 c κs = search needs
 
--- src/search.rt:31:17
 mul-result-2 : tie.Need-mul-result-2
 mul-result-2 c = search needs
 
--- src/search.rt:31:5
 add-result-2 : tie.Need-add-result-2
 add-result-2 c = search needs
 
--- src/search.rt:31:41
 wide-requires-4 : tie.Need-wide-requires-4
 wide-requires-4 c κs = search needs
 
--- src/search.rt:31:36
 mul-result-3 : tie.Need-mul-result-3
 mul-result-3 c = search needs
 
--- src/search.rt:31:5
 add-result-3 : tie.Need-add-result-3
 add-result-3 c = search needs
 
--- src/search.rt:31:53
 wide-requires-5 : tie.Need-wide-requires-5
 wide-requires-5 c κs = search needs
 
--- src/search.rt:31:5
 add-result-4 : tie.Need-add-result-4
 add-result-4 c = search needs
 
--- src/search.rt:25:1
 returns-2 : tie.Need-returns-2
 unfolding row-of key second-key
 returns-2 c = rw (ne-eqb _ _ (c .before .before .before .if1 .left)) (omega arith)

@@ -1,38 +1,29 @@
+-- `checker::standing::arrival` meets its contract. Assumes nothing.
 use borrow.Author.Needs.{needs}
 use borrow.Author.Tests.{eq-eqb, ne-eqb}
 use Rattle.model.specs.RowForm.{row-of}
 use Rattle.checker.specs.Quick.{arrival}
 use Rattle.checker.proofs.standing.arrival.Statement.{statement}
 use Rattle.checker.proofs.standing.arrival.Tie as tie
-use Rattle.checker.proofs.standing.arrival.Reads as reads
-use Rattle.checker.proofs.standing.arrival.Lts as lts
-use Rattle.checker.proofs.standing.join.Reads as join-reads
-use Rattle.checker.proofs.standing.member.Reads as member-reads
 
--- src/standing.rt:99:9
 returns : tie.Need-returns
 unfolding row-of arrival
 returns c = rw (eq-eqb _ _ (c .if1 .taken))
 
--- src/standing.rt:102:9
 returns-2 : tie.Need-returns-2
 unfolding row-of arrival
 returns-2 c = rw (ne-eqb _ _ (c .before .before .if1 .left), ne-eqb _ _ (c .if2 .taken))
 
--- src/standing.rt:104:8
 member-requires : tie.Need-member-requires
 member-requires c κs = search needs
 
--- src/standing.rt:105:9
 join-requires : tie.Need-join-requires
 join-requires c κs = search needs
 
--- src/standing.rt:105:9
 returns-3 : tie.Need-returns-3
 unfolding row-of arrival
 returns-3 c = rw (ne-eqb _ _ (c .before .before .before .before .before .if1 .left), eq-eqb _ _ (c .before .before .before .if2 .left), ← c .before .before .member .ensures, c .before .if3 .taken) (c .join .ensures)
 
--- src/standing.rt:95:1
 returns-4 : tie.Need-returns-4
 unfolding row-of arrival
 returns-4 c = rw (ne-eqb _ _ (c .before .before .before .before .if1 .left), eq-eqb _ _ (c .before .before .if2 .left), ← c .before .member .ensures, c .if3 .left)

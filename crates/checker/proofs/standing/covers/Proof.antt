@@ -1,28 +1,22 @@
-use borrow.Author.Needs.{needs}
+-- `checker::standing::covers` meets its contract. Assumes nothing.
 use borrow.Author.Tests.{eq-eqb, ne-eqb, lt-ltb, le-ltb}
 use Rattle.model.specs.RowForm.{row-of}
 use Rattle.checker.specs.Quick.{covers}
 use Rattle.checker.proofs.standing.covers.Statement.{statement}
 use Rattle.checker.proofs.standing.covers.Tie as tie
-use Rattle.checker.proofs.standing.covers.Reads as reads
-use Rattle.checker.proofs.standing.covers.Lts as lts
 
--- src/standing.rt:39:9
 returns : tie.Need-returns
 unfolding row-of covers
 returns c = rw (ne-eqb _ _ (c .if1 .taken))
 
--- src/standing.rt:42:9
 returns-2 : tie.Need-returns-2
 unfolding row-of covers
 returns-2 c = rw (eq-eqb _ _ (c .before .before .if1 .left), ne-eqb _ _ (c .if2 .taken))
 
--- src/standing.rt:45:9
 returns-3 : tie.Need-returns-3
 unfolding row-of covers
 returns-3 c = rw (eq-eqb _ _ (c .before .before .before .before .if1 .left), eq-eqb _ _ (c .before .before .if2 .left), le-ltb _ _ (c .if3 .taken))
 
--- src/standing.rt:35:1
 returns-4 : tie.Need-returns-4
 unfolding row-of covers
 returns-4 c = rw (eq-eqb _ _ (c .before .before .before .before .before .if1 .left), eq-eqb _ _ (c .before .before .before .if2 .left), lt-ltb _ _ (c .before .if3 .left))

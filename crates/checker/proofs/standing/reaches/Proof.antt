@@ -1,3 +1,4 @@
+-- `checker::standing::reaches` meets its contract. Assumes nothing.
 use borrow.Author.Needs.{needs}
 use mathlib.Core.Path.{sym, _∙_}
 use borrow.Author.Tests.{eq-eqb}
@@ -5,34 +6,23 @@ use Rattle.checker.specs.Quick.{reaches}
 use Rattle.checker.specs.QuickSteps.{reaches-read}
 use Rattle.checker.proofs.standing.reaches.Statement.{statement}
 use Rattle.checker.proofs.standing.reaches.Tie as tie
-use Rattle.checker.proofs.standing.reaches.Reads as reads
-use Rattle.checker.proofs.standing.reaches.Lts as lts
-use Rattle.checker.proofs.rows.row.Reads as row-reads
-use Rattle.checker.proofs.search.after_holds.Reads as after-holds-reads
-use Rattle.checker.proofs.standing.covers.Reads as covers-reads
 
--- src/standing.rt:54:9
 after-holds-requires : tie.Need-after-holds-requires
 after-holds-requires c κs = search needs
 
--- src/standing.rt:56:9
 returns : tie.Need-returns
 unfolding reaches
 returns c = rw (← c .before .after-holds .ensures, eq-eqb _ _ (c .if1 .taken))
 
--- src/standing.rt:58:26
 sub-row : tie.Need-sub-row
 sub-row c = search needs
 
--- src/standing.rt:58:18
 row-requires : tie.Need-row-requires
 row-requires c κs = search needs
 
--- src/standing.rt:58:5
 covers-requires : tie.Need-covers-requires
 covers-requires c κs = search needs
 
--- src/standing.rt:51:1
 returns-2 : tie.Need-returns-2
 returns-2 c =
     let a = c .before .before .before .before .before .args in

@@ -1,3 +1,4 @@
+-- `checker::standing::settle` meets its contract. Assumes nothing.
 use borrow.Author.Needs.{needs}
 use mathlib.Core.Path.{_≡_, refl, sym, _∙_}
 use Prim.Native.Nat.{ℕ, _-_}
@@ -6,9 +7,6 @@ use Rattle.checker.specs.Quick.{along, settle}
 use Rattle.checker.specs.QuickSteps.{settle-stop, settle-on}
 use Rattle.checker.proofs.standing.settle.Statement.{statement}
 use Rattle.checker.proofs.standing.settle.Tie as tie
-use Rattle.checker.proofs.standing.settle.Reads as reads
-use Rattle.checker.proofs.standing.settle.Lts as lts
-use Rattle.checker.proofs.standing.along.Reads as along-reads
 
 abbrev Inv-loop : tie.InvT-loop
 Inv-loop ns t from to count start w₀ left₀ w left = settle left (λ (w : ℕ). along ns t from w (to - from)) w ≡ settle count (λ (w : ℕ). along ns t from w (to - from)) start
@@ -16,15 +14,12 @@ Inv-loop ns t from to count start w₀ left₀ w left = settle left (λ (w : ℕ
 abbrev μ-loop : tie.MeasureT-loop
 μ-loop ns t from to count start w₀ left₀ w left = left
 
--- src/standing.rt:145:5
 loop-holds : tie.Need-loop-holds Inv-loop μ-loop
 loop-holds c = refl
 
--- src/standing.rt:146:13
 along-requires : tie.Need-along-requires Inv-loop μ-loop
 along-requires c κs = search needs
 
--- src/standing.rt:148:13
 returns : tie.Need-returns Inv-loop μ-loop
 returns c =
     let l = c .before .before .before .loop in
@@ -32,15 +27,12 @@ returns c =
     let f : ℕ → ℕ = λ (w : ℕ). along (a .ns .now) (a .t) (a .from) w (a .to - a .from) in
     sym (settle-stop f (l .left) (l .w) (search needs) (sym (c .before .along .ensures) ∙ c .if1 .taken)) ∙ l .inv
 
--- src/standing.rt:151:9
 sub-left : tie.Need-sub-left Inv-loop μ-loop
 sub-left c = search needs
 
--- src/standing.rt:145:5
 loop-less : tie.Need-loop-less Inv-loop μ-loop
 loop-less c = search needs
 
--- src/standing.rt:145:5
 loop-again : tie.Need-loop-again Inv-loop μ-loop
 loop-again c =
     let l = c .before .before .before .loop in
@@ -48,7 +40,6 @@ loop-again c =
     let f : ℕ → ℕ = λ (w : ℕ). along (a .ns .now) (a .t) (a .from) w (a .to - a .from) in
     rw (c .before .along .ensures) (sym (settle-on f (l .left) (l .w) (search needs) (λ d. c .if1 .left (c .before .along .ensures ∙ d))) ∙ l .inv)
 
--- src/standing.rt:140:1
 returns-2 : tie.Need-returns-2 Inv-loop μ-loop
 unfolding settle
 returns-2 c =

@@ -1,3 +1,4 @@
+-- `checker::standing::sources` meets its contract. Assumes nothing.
 use borrow.Author.Needs.{needs}
 use mathlib.Core.Path.{_≡_, refl}
 use Prim.Native.Nat.{_-_, _≤_}
@@ -7,10 +8,6 @@ use Rattle.checker.specs.Quick.{sources}
 use Rattle.checker.specs.QuickSteps.{source-more}
 use Rattle.checker.proofs.standing.sources.Statement.{statement}
 use Rattle.checker.proofs.standing.sources.Tie as tie
-use Rattle.checker.proofs.standing.sources.Reads as reads
-use Rattle.checker.proofs.standing.sources.Lts as lts
-use Rattle.checker.proofs.rows.row.Reads as row-reads
-use Rattle.checker.proofs.standing.join.Reads as join-reads
 
 abbrev Inv-loop : tie.InvT-loop
 Inv-loop ns from to w₀ i₀ w i = (from ≤ i) × (i - from ≤ to - from) × (w ≡ sources ns from (i - from))
@@ -18,30 +15,24 @@ Inv-loop ns from to w₀ i₀ w i = (from ≤ i) × (i - from ≤ to - from) × 
 abbrev μ-loop : tie.MeasureT-loop
 μ-loop ns from to w₀ i₀ w i = to - i
 
--- src/standing.rt:103:5
 loop-holds : tie.Need-loop-holds Inv-loop μ-loop
 unfolding sources
 loop-holds c =
     let a = c .before .args in
     rw (sub-self (a .from)) (search needs, search needs, refl)
 
--- src/standing.rt:104:21
 row-requires : tie.Need-row-requires Inv-loop μ-loop
 row-requires c κs = search needs
 
--- src/standing.rt:104:9
 join-requires : tie.Need-join-requires Inv-loop μ-loop
 join-requires c κs = search needs
 
--- src/standing.rt:105:9
 add-i : tie.Need-add-i Inv-loop μ-loop
 add-i c = search needs
 
--- src/standing.rt:103:5
 loop-less : tie.Need-loop-less Inv-loop μ-loop
 loop-less c = search needs
 
--- src/standing.rt:103:5
 loop-again : tie.Need-loop-again Inv-loop μ-loop
 loop-again c =
     let l = c .before .before .before .loop in
@@ -51,7 +42,6 @@ loop-again c =
       source-more (a .ns .now) (a .from) (l .i) (l .w) _ _ (l .inv .0) (l .inv .2) (c .before .row .ensures) (c .join .ensures),
     )
 
--- src/standing.rt:98:1
 returns : tie.Need-returns Inv-loop μ-loop
 returns c =
     let l = c .before .loop in

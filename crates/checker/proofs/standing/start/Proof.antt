@@ -1,22 +1,17 @@
+-- `checker::standing::start` meets its contract. Assumes nothing.
 use borrow.Author.Needs.{needs}
 use borrow.Author.Tests.{eq-eqb, ne-eqb}
 use Rattle.checker.specs.Quick.{begun}
 use Rattle.checker.proofs.standing.start.Statement.{statement}
 use Rattle.checker.proofs.standing.start.Tie as tie
-use Rattle.checker.proofs.standing.start.Reads as reads
-use Rattle.checker.proofs.standing.start.Lts as lts
-use Rattle.checker.proofs.standing.join.Reads as join-reads
 
--- src/standing.rt:76:9
 join-requires : tie.Need-join-requires
 join-requires c κs = search needs
 
--- src/standing.rt:76:9
 returns : tie.Need-returns
 unfolding begun
 returns c = rw (eq-eqb _ _ (c .before .if1 .taken)) (c .join .ensures)
 
--- src/standing.rt:72:1
 returns-2 : tie.Need-returns-2
 unfolding begun
 returns-2 c = rw (ne-eqb _ _ (c .if1 .left))

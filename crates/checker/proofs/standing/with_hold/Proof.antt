@@ -1,36 +1,26 @@
+-- `checker::standing::with_hold` meets its contract. Assumes nothing.
 use borrow.Author.Needs.{needs}
 use Rattle.checker.specs.Quick.{with-hold}
 use Rattle.checker.proofs.standing.with_hold.Statement.{statement}
 use Rattle.checker.proofs.standing.with_hold.Tie as tie
-use Rattle.checker.proofs.standing.with_hold.Reads as reads
-use Rattle.checker.proofs.standing.with_hold.Lts as lts
-use Rattle.checker.proofs.standing.join.Reads as join-reads
-use Rattle.checker.proofs.standing.member.Reads as member-reads
-use Rattle.checker.proofs.standing.reaches.Reads as reaches-reads
 
--- src/standing.rt:65:8
 member-requires : tie.Need-member-requires
 member-requires c κs = search needs
 
--- src/standing.rt:66:12
 reaches-requires : tie.Need-reaches-requires
 reaches-requires c κs = search needs
 
--- src/standing.rt:67:13
 join-requires : tie.Need-join-requires
 join-requires c κs = search needs
 
--- src/standing.rt:67:13
 returns : tie.Need-returns
 unfolding with-hold
 returns c = rw (← c .before .before .before .before .member .ensures, c .before .before .before .if1 .taken, ← c .before .before .reaches .ensures, c .before .if2 .taken) (c .join .ensures)
 
--- src/standing.rt:69:9
 returns-2 : tie.Need-returns-2
 unfolding with-hold
 returns-2 c = rw (← c .before .before .before .member .ensures, c .before .before .if1 .taken, ← c .before .reaches .ensures, c .if2 .left)
 
--- src/standing.rt:62:1
 returns-3 : tie.Need-returns-3
 unfolding with-hold
 returns-3 c = rw (← c .before .member .ensures, c .if1 .left)

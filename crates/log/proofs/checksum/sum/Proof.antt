@@ -1,5 +1,6 @@
+-- `log::checksum::sum` meets its contract. Assumes nothing.
 use borrow.Author.Needs.{needs}
-use mathlib.Core.Path.{_≡_, sym, ap, _∙_}
+use mathlib.Core.Path.{_≡_, sym, _∙_}
 use native.Mathlib.Omega.{arith}
 use Prim.Native.Nat.{_-_}
 use lib.ListN.{length, take, drop, length-drop}
@@ -7,47 +8,34 @@ use lib.Seq.{length-take-le, take-all}
 use Rattle.log.specs.SumLaws.{sum-parts, sum-head, sum-short}
 use Rattle.log.proofs.checksum.sum.Statement.{statement}
 use Rattle.log.proofs.checksum.sum.Tie as tie
-use Rattle.log.proofs.checksum.sum.Reads as reads
-use Rattle.log.proofs.checksum.sum.Lts as lts
-use Rattle.log.proofs.checksum.sum_from.Reads as sum-from-reads
 
--- src/checksum.rt:52:9
 sum-from-requires : tie.Need-sum-from-requires
 sum-from-requires c κs = search needs
 
--- src/checksum.rt:52:9
 returns : tie.Need-returns
 returns c = c .sum-from .ensures ∙ sym (sum-short _ (c .before .if1 .taken))
 
--- src/checksum.rt:54:25
 slice-aggregate-sum-from : tie.Need-slice-aggregate-sum-from
 slice-aggregate-sum-from c = sym (length-take-le 20 (c .before .before .before .args .log .now) (omega arith))
 
--- src/checksum.rt:54:9
 sum-from-requires-2 : tie.Need-sum-from-requires-2
 sum-from-requires-2 c κs = search needs
 
--- src/checksum.rt:56:9
 returns-2 : tie.Need-returns-2
 returns-2 c = c .before .sum-from2 .ensures ∙ sym (sum-head _ (c .if2 .taken))
 
--- src/checksum.rt:58:17
 sub-sum-from : tie.Need-sub-sum-from
 sub-sum-from c = search needs
 
--- src/checksum.rt:58:17
 part-sum-from-start : tie.Need-part-sum-from-start
 part-sum-from-start c = search needs
 
--- src/checksum.rt:58:17
 part-sum-from-end : tie.Need-part-sum-from-end
 part-sum-from-end c = search needs
 
--- src/checksum.rt:58:5
 sum-from-requires-3 : tie.Need-sum-from-requires-3
 sum-from-requires-3 c κs = search needs
 
--- src/checksum.rt:48:1
 returns-3 : tie.Need-returns-3
 returns-3 c =
     let log = c .before .before .before .before .before .before .before .args .log .now in

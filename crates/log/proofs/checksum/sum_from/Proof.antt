@@ -1,5 +1,6 @@
+-- `log::checksum::sum_from` meets its contract. Assumes nothing.
 use borrow.Author.Needs.{needs}
-use mathlib.Core.Path.{_≡_, refl}
+use mathlib.Core.Path.{_≡_}
 use Prim.Native.Nat.{_≤_, _-_}
 use native.Mathlib.Numerals.{add-one}
 use native.Mathlib.Omega.{arith}
@@ -8,9 +9,6 @@ use lib.Seq.{drop-cons, drop-length}
 use Rattle.log.specs.Sum.{sum-from}
 use Rattle.log.proofs.checksum.sum_from.Statement.{statement}
 use Rattle.log.proofs.checksum.sum_from.Tie as tie
-use Rattle.log.proofs.checksum.sum_from.Reads as reads
-use Rattle.log.proofs.checksum.sum_from.Lts as lts
-use Rattle.log.proofs.checksum.step.Reads as step-reads
 
 abbrev Inv-loop : tie.InvT-loop
 Inv-loop start bytes s₀ i₀ s i = (i ≤ length bytes) × (sum-from s (drop i bytes) ≡ sum-from start bytes)
@@ -18,27 +16,21 @@ Inv-loop start bytes s₀ i₀ s i = (i ≤ length bytes) × (sum-from s (drop i
 abbrev μ-loop : tie.MeasureT-loop
 μ-loop start bytes s₀ i₀ s i = length bytes - i
 
--- src/checksum.rt:40:5
 loop-holds : tie.Need-loop-holds Inv-loop μ-loop
 loop-holds c = search needs
 
--- src/checksum.rt:41:21
 shared-slice-read-step : tie.Need-shared-slice-read-step Inv-loop μ-loop
 shared-slice-read-step c = search needs
 
--- src/checksum.rt:41:9
 step-requires : tie.Need-step-requires Inv-loop μ-loop
 step-requires c κs = search needs
 
--- src/checksum.rt:42:9
 add-i : tie.Need-add-i Inv-loop μ-loop
 add-i c = search needs
 
--- src/checksum.rt:40:5
 loop-less : tie.Need-loop-less Inv-loop μ-loop
 loop-less c = search needs
 
--- src/checksum.rt:40:5
 loop-again : tie.Need-loop-again Inv-loop μ-loop
 unfolding sum-from
 loop-again c =
@@ -49,7 +41,6 @@ loop-again c =
           (rw (drop-cons bytes i 0 (search needs)) at (c .before .before .before .loop .inv .1)),
     )
 
--- src/checksum.rt:35:1
 returns : tie.Need-returns Inv-loop μ-loop
 unfolding sum-from
 returns c =

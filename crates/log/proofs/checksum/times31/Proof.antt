@@ -1,3 +1,4 @@
+-- `log::checksum::times31` meets its contract. Assumes nothing.
 use borrow.Author.Needs.{needs}
 use mathlib.Core.Path.{ap}
 use Prim.Native.Nat.{ℕ, _%_, _^_}
@@ -5,43 +6,31 @@ use native.Mathlib.Omega.{arith}
 use native.Mathlib.Nat.{mod-add-mod, add-mod-mod}
 use Rattle.log.proofs.checksum.times31.Statement.{statement}
 use Rattle.log.proofs.checksum.times31.Tie as tie
-use Rattle.log.proofs.checksum.times31.Reads as reads
-use Rattle.log.proofs.checksum.times31.Lts as lts
-use Rattle.std.proofs.num.wrapping_add_u32.Reads as wrapping-add-u32-reads
 
--- src/checksum.rt:11:9
 wrapping-add-u32-requires : tie.Need-wrapping-add-u32-requires
 wrapping-add-u32-requires c κs = search needs
 
--- src/checksum.rt:12:9
 wrapping-add-u32-requires-2 : tie.Need-wrapping-add-u32-requires-2
 wrapping-add-u32-requires-2 c κs = search needs
 
--- src/checksum.rt:13:9
 wrapping-add-u32-requires-3 : tie.Need-wrapping-add-u32-requires-3
 wrapping-add-u32-requires-3 c κs = search needs
 
--- src/checksum.rt:14:9
 wrapping-add-u32-requires-4 : tie.Need-wrapping-add-u32-requires-4
 wrapping-add-u32-requires-4 c κs = search needs
 
--- src/checksum.rt:15:9
 wrapping-add-u32-requires-5 : tie.Need-wrapping-add-u32-requires-5
 wrapping-add-u32-requires-5 c κs = search needs
 
--- src/checksum.rt:16:9
 wrapping-add-u32-requires-6 : tie.Need-wrapping-add-u32-requires-6
 wrapping-add-u32-requires-6 c κs = search needs
 
--- src/checksum.rt:17:9
 wrapping-add-u32-requires-7 : tie.Need-wrapping-add-u32-requires-7
 wrapping-add-u32-requires-7 c κs = search needs
 
--- src/checksum.rt:18:5
 wrapping-add-u32-requires-8 : tie.Need-wrapping-add-u32-requires-8
 wrapping-add-u32-requires-8 c κs = search needs
 
--- src/checksum.rt:8:1
 returns : tie.Need-returns
 returns c =
     simp (

@@ -1,3 +1,4 @@
+-- `log::conditions::lists_fault` meets its contract. Assumes nothing.
 use borrow.Author.Needs.{needs}
 use mathlib.Core.Path.{_≡_, refl, sym, _∙_}
 use Prim.Native.Nat.{_≤_, _-_}
@@ -12,10 +13,6 @@ use Rattle.log.specs.Conditions.{before, request-conditions}
 use Rattle.log.specs.ConditionLaws.{each-more}
 use Rattle.log.proofs.conditions.lists_fault.Statement.{statement}
 use Rattle.log.proofs.conditions.lists_fault.Tie as tie
-use Rattle.log.proofs.conditions.lists_fault.Reads as reads
-use Rattle.log.proofs.conditions.lists_fault.Lts as lts
-use Rattle.log.proofs.conditions.place.Reads as place-reads
-use Rattle.log.proofs.conditions.request_fault.Reads as request-fault-reads
 
 abbrev Inv-loop : tie.InvT-loop
 Inv-loop count seconds servers earlier₀ i₀ earlier i = (i ≤ length seconds) × (first (each (request-conditions count seconds servers) i) ≡ Passed) × (earlier ≡ before seconds i)
@@ -23,40 +20,31 @@ Inv-loop count seconds servers earlier₀ i₀ earlier i = (i ≤ length seconds
 abbrev μ-loop : tie.MeasureT-loop
 μ-loop count seconds servers earlier₀ i₀ earlier i = length seconds - i
 
--- src/conditions.rt:197:5
 loop-holds : tie.Need-loop-holds Inv-loop μ-loop
 unfolding first each before
 loop-holds c = (search needs, refl, refl)
 
--- src/conditions.rt:198:22
 mul-second : tie.Need-mul-second Inv-loop μ-loop
 mul-second c = search needs
 
--- src/conditions.rt:198:22
 shared-slice-read-second : tie.Need-shared-slice-read-second Inv-loop μ-loop
 shared-slice-read-second c = search needs
 
--- src/conditions.rt:199:38
 mul-request-fault : tie.Need-mul-request-fault Inv-loop μ-loop
 mul-request-fault c = search needs
 
--- src/conditions.rt:199:38
 shared-slice-read-request-fault : tie.Need-shared-slice-read-request-fault Inv-loop μ-loop
 shared-slice-read-request-fault c = search needs
 
--- src/conditions.rt:199:67
 place-requires : tie.Need-place-requires Inv-loop μ-loop
 place-requires c κs = search needs
 
--- src/conditions.rt:199:13
 request-fault-requires : tie.Need-request-fault-requires Inv-loop μ-loop
 request-fault-requires c κs = search needs
 
--- src/conditions.rt:200:33
 enum-known-v : tie.Need-enum-known-v Inv-loop μ-loop
 enum-known-v c = search needs
 
--- src/conditions.rt:201:13
 returns : tie.Need-returns Inv-loop μ-loop
 returns c =
     let p = c .before .before .before in
@@ -69,15 +57,12 @@ returns c =
 enum-told : tie.Need-enum-told Inv-loop μ-loop
 enum-told c = search needs
 
--- src/conditions.rt:204:9
 add-i : tie.Need-add-i Inv-loop μ-loop
 add-i c = search needs
 
--- src/conditions.rt:197:5
 loop-less : tie.Need-loop-less Inv-loop μ-loop
 loop-less c = search needs
 
--- src/conditions.rt:197:5
 loop-again : tie.Need-loop-again Inv-loop μ-loop
 unfolding before
 loop-again c =
@@ -92,7 +77,6 @@ loop-again c =
       rw (add-one (l .i)),
     )
 
--- src/conditions.rt:191:1
 returns-2 : tie.Need-returns-2 Inv-loop μ-loop
 returns-2 c =
     let l = c .before .loop in

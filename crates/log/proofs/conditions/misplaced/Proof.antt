@@ -1,48 +1,36 @@
+-- `log::conditions::misplaced` meets its contract. Assumes nothing.
 use borrow.Author.Needs.{needs}
 use Rattle.log.specs.Fields.{requests-offset, id-offset, total-length, length-for}
 use borrow.Author.Tests.{eq-eqb, ne-eqb}
 use Rattle.log.proofs.conditions.misplaced.Statement.{statement}
 use Rattle.log.proofs.conditions.misplaced.Tie as tie
-use Rattle.log.proofs.conditions.misplaced.Reads as reads
-use Rattle.log.proofs.conditions.misplaced.Lts as lts
-use Rattle.base.proofs.bytes.at32.Reads as at32-reads
-use Rattle.log.proofs.conditions.word.Reads as word-reads
 
--- src/conditions.rt:66:8
 at32-requires : tie.Need-at32-requires
 at32-requires c κs = search needs
 
--- src/conditions.rt:67:9
 returns : tie.Need-returns
 unfolding requests-offset
 returns c = rw (← c .before .at32 .ensures, ne-eqb _ _ (c .if1 .taken))
 
--- src/conditions.rt:69:8
 at32-requires-2 : tie.Need-at32-requires-2
 at32-requires-2 c κs = search needs
 
--- src/conditions.rt:70:9
 returns-2 : tie.Need-returns-2
 unfolding requests-offset id-offset
 returns-2 c = rw (← c .before .before .before .at32 .ensures, eq-eqb _ _ (c .before .before .if1 .left), ← c .before .at322 .ensures, ne-eqb _ _ (c .if2 .taken))
 
--- src/conditions.rt:72:5
 at32-requires-3 : tie.Need-at32-requires-3
 at32-requires-3 c κs = search needs
 
--- src/conditions.rt:72:31
 word-requires : tie.Need-word-requires
 word-requires c κs = search needs
 
--- src/conditions.rt:72:27
 mul-result : tie.Need-mul-result
 mul-result c = search needs
 
--- src/conditions.rt:72:22
 add-result : tie.Need-add-result
 add-result c = search needs
 
--- src/conditions.rt:63:1
 returns-3 : tie.Need-returns-3
 unfolding requests-offset id-offset total-length length-for
 returns-3 c =

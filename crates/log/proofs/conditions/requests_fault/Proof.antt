@@ -1,3 +1,4 @@
+-- `log::conditions::requests_fault` meets its contract. Assumes nothing.
 use borrow.Author.Needs.{needs}
 use mathlib.Core.Path.{_≡_, refl, sym, _∙_}
 use Prim.Native.Nat.{_≤_, _-_}
@@ -7,18 +8,11 @@ use Rattle.log.specs.ConditionLaws.{request-found}
 use Rattle.base.specs.Refusals.{first, each}
 use Rattle.base.specs.RefusalLaws.{each-refused}
 use Rattle.base.specs.declared.Verdict.the-variants.{Passed}
-use Rattle.log.specs.Fields.{server-count, request-count, seconds-of, servers-of}
-use Rattle.log.specs.Conditions.{before, request-conditions}
-use Rattle.log.specs.ConditionLaws.{log-requests, before-next, log-request, each-more}
+use Rattle.log.specs.Fields.{server-count, request-count, seconds-of}
+use Rattle.log.specs.Conditions.{before}
+use Rattle.log.specs.ConditionLaws.{log-requests, before-next, each-more}
 use Rattle.log.proofs.conditions.requests_fault.Statement.{statement}
 use Rattle.log.proofs.conditions.requests_fault.Tie as tie
-use Rattle.log.proofs.conditions.requests_fault.Reads as reads
-use Rattle.log.proofs.conditions.requests_fault.Lts as lts
-use Rattle.base.proofs.bytes.at.Reads as at-reads
-use Rattle.base.proofs.bytes.at16.Reads as at16-reads
-use Rattle.base.proofs.bytes.at32.Reads as at32-reads
-use Rattle.log.proofs.conditions.fault_at.Reads as fault-at-reads
-use Rattle.log.proofs.conditions.size.Reads as size-reads
 
 abbrev Inv-loop : tie.InvT-loop
 Inv-loop log count n earlier₀ i₀ earlier i = (i ≤ n) × (first (each (log-requests log) i) ≡ Passed) × (earlier ≡ before (seconds-of log) i)
@@ -26,28 +20,22 @@ Inv-loop log count n earlier₀ i₀ earlier i = (i ≤ n) × (first (each (log-
 abbrev μ-loop : tie.MeasureT-loop
 μ-loop log count n earlier₀ i₀ earlier i = n - i
 
--- src/conditions.rt:145:9
 at-requires : tie.Need-at-requires Inv-loop μ-loop
 at-requires c κs = search needs
 
--- src/conditions.rt:146:9
 at16-requires : tie.Need-at16-requires Inv-loop μ-loop
 at16-requires c κs = search needs
 
--- src/conditions.rt:149:5
 loop-holds : tie.Need-loop-holds Inv-loop μ-loop
 unfolding first each before
 loop-holds c = (search needs, refl, refl)
 
--- src/conditions.rt:150:13
 fault-at-requires : tie.Need-fault-at-requires Inv-loop μ-loop
 fault-at-requires c κs = search needs
 
--- src/conditions.rt:151:33
 enum-known-v : tie.Need-enum-known-v Inv-loop μ-loop
 enum-known-v c = search needs
 
--- src/conditions.rt:152:13
 returns : tie.Need-returns Inv-loop μ-loop
 unfolding request-count server-count
 returns c =
@@ -60,31 +48,24 @@ returns c =
 enum-told : tie.Need-enum-told Inv-loop μ-loop
 enum-told c = search needs
 
--- src/conditions.rt:154:38
 size-requires : tie.Need-size-requires Inv-loop μ-loop
 size-requires c κs = search needs
 
--- src/conditions.rt:154:34
 mul-at32 : tie.Need-mul-at32 Inv-loop μ-loop
 mul-at32 c = search needs
 
--- src/conditions.rt:154:29
 add-at32 : tie.Need-add-at32 Inv-loop μ-loop
 add-at32 c = search needs
 
--- src/conditions.rt:154:9
 at32-requires : tie.Need-at32-requires Inv-loop μ-loop
 at32-requires c κs = search needs
 
--- src/conditions.rt:155:9
 add-i : tie.Need-add-i Inv-loop μ-loop
 add-i c = search needs
 
--- src/conditions.rt:149:5
 loop-less : tie.Need-loop-less Inv-loop μ-loop
 loop-less c = search needs
 
--- src/conditions.rt:149:5
 loop-again : tie.Need-loop-again Inv-loop μ-loop
 unfolding request-count server-count
 loop-again c =
@@ -99,7 +80,6 @@ loop-again c =
       rw (c .at32 .ensures, c .before .size .ensures .0, add-one (l .i)) (sym (before-next log (l .i) (search needs))),
     )
 
--- src/conditions.rt:142:1
 returns-2 : tie.Need-returns-2 Inv-loop μ-loop
 unfolding request-count
 returns-2 c =

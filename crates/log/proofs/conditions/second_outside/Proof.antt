@@ -1,15 +1,11 @@
-use borrow.Author.Needs.{needs}
+-- `log::conditions::second_outside` meets its contract. Assumes nothing.
 use borrow.Author.Tests.{eq-eqb, ne-eqb}
 use Rattle.log.proofs.conditions.second_outside.Statement.{statement}
 use Rattle.log.proofs.conditions.second_outside.Tie as tie
-use Rattle.log.proofs.conditions.second_outside.Reads as reads
-use Rattle.log.proofs.conditions.second_outside.Lts as lts
 
--- src/conditions.rt:112:9
 returns : tie.Need-returns
 returns c = rw (eq-eqb _ _ (c .if1 .taken))
 
--- src/conditions.rt:108:1
 returns-2 : tie.Need-returns-2
 returns-2 c = rw (ne-eqb _ _ (c .if1 .left))
 

@@ -1,44 +1,32 @@
+-- `log::conditions::verdict` meets its contract. Assumes nothing.
 use borrow.Author.Needs.{needs}
 use Rattle.base.specs.Refusals.{first}
 use Rattle.log.specs.ConditionLaws.{verdict-parts}
-use mathlib.Core.Path.{_≡_, refl, sym, _∙_}
 use Rattle.log.proofs.conditions.verdict.Statement.{statement}
 use Rattle.log.proofs.conditions.verdict.Tie as tie
-use Rattle.log.proofs.conditions.verdict.Reads as reads
-use Rattle.log.proofs.conditions.verdict.Lts as lts
-use Rattle.log.proofs.conditions.form_fault.Reads as form-fault-reads
-use Rattle.log.proofs.conditions.requests_fault.Reads as requests-fault-reads
-use Rattle.log.proofs.conditions.sum_differs.Reads as sum-differs-reads
 
--- src/conditions.rt:167:9
 form-fault-requires : tie.Need-form-fault-requires
 form-fault-requires c κs = search needs
 
--- src/conditions.rt:168:29
 enum-known-v : tie.Need-enum-known-v
 enum-known-v c = search needs
 
--- src/conditions.rt:169:9
 returns : tie.Need-returns
 returns c = rw (verdict-parts, ← c .before .before .before .form-fault .ensures, c .before .v .given .1)
 
 enum-told : tie.Need-enum-told
 enum-told c = search needs
 
--- src/conditions.rt:171:8
 sum-differs-requires : tie.Need-sum-differs-requires
 sum-differs-requires c κs = search needs
 
--- src/conditions.rt:172:9
 returns-2 : tie.Need-returns-2
 unfolding first
 returns-2 c = rw (verdict-parts, ← c .before .before .before .before .form-fault .ensures, c .before .before .enum-told .given .1, ← c .before .sum-differs .ensures, c .if1 .taken)
 
--- src/conditions.rt:177:5
 requests-fault-requires : tie.Need-requests-fault-requires
 requests-fault-requires c κs = search needs
 
--- src/conditions.rt:164:1
 returns-3 : tie.Need-returns-3
 unfolding first
 returns-3 c =

@@ -1,35 +1,25 @@
+-- `log::reader::give_seconds` meets its contract. Assumes nothing.
 use borrow.Author.Needs.{needs}
-use mathlib.Core.Path.{_≡_, refl, ap, _∙_}
-use Prim.Native.Nat.{ℕ, _+_, _*_}
-use native.Mathlib.Omega.{arith}
+use mathlib.Core.Path.{_∙_}
+use Prim.Native.Nat.{_+_, _*_}
 use Rattle.base.specs.Bytes.{le32}
 use Rattle.base.specs.Lists.{build, build-length}
 use Rattle.base.specs.LentLaws.{lent-front}
 use Rattle.log.proofs.reader.give_seconds.Statement.{statement}
 use Rattle.log.proofs.reader.give_seconds.Tie as tie
-use Rattle.log.proofs.reader.give_seconds.Reads as reads
-use Rattle.log.proofs.reader.give_seconds.Lts as lts
-use Rattle.base.proofs.bytes.clear32.Reads as clear32-reads
-use Rattle.log.proofs.reader.put_seconds.Reads as put-seconds-reads
-use Rattle.log.proofs.reader.size.Reads as size-reads
 
--- src/reader.rt:117:5
 put-seconds-requires : tie.Need-put-seconds-requires
 put-seconds-requires c κs = search needs
 
--- src/reader.rt:118:18
 size-requires : tie.Need-size-requires
 size-requires c κs = search needs
 
--- src/reader.rt:118:5
 clear32-requires : tie.Need-clear32-requires
 clear32-requires c κs = search needs
 
--- src/reader.rt:113:1
 same-length : tie.Need-same-length
 same-length c = search needs
 
--- src/reader.rt:113:1
 returns : tie.Need-returns
 returns c =
     let p = c .before .before .before .before .before .before .before in

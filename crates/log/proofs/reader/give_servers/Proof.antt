@@ -1,35 +1,25 @@
+-- `log::reader::give_servers` meets its contract. Assumes nothing.
 use borrow.Author.Needs.{needs}
-use mathlib.Core.Path.{_≡_, refl, ap, _∙_}
-use Prim.Native.Nat.{ℕ, _+_, _*_}
-use native.Mathlib.Omega.{arith}
+use mathlib.Core.Path.{_∙_}
+use Prim.Native.Nat.{_+_, _*_}
 use Rattle.base.specs.Bytes.{le16}
 use Rattle.base.specs.Lists.{build, build-length}
 use Rattle.base.specs.LentLaws.{lent-front}
 use Rattle.log.proofs.reader.give_servers.Statement.{statement}
 use Rattle.log.proofs.reader.give_servers.Tie as tie
-use Rattle.log.proofs.reader.give_servers.Reads as reads
-use Rattle.log.proofs.reader.give_servers.Lts as lts
-use Rattle.base.proofs.bytes.clear16.Reads as clear16-reads
-use Rattle.log.proofs.reader.put_servers.Reads as put-servers-reads
-use Rattle.log.proofs.reader.size.Reads as size-reads
 
--- src/reader.rt:126:5
 put-servers-requires : tie.Need-put-servers-requires
 put-servers-requires c κs = search needs
 
--- src/reader.rt:127:18
 size-requires : tie.Need-size-requires
 size-requires c κs = search needs
 
--- src/reader.rt:127:5
 clear16-requires : tie.Need-clear16-requires
 clear16-requires c κs = search needs
 
--- src/reader.rt:122:1
 same-length : tie.Need-same-length
 same-length c = search needs
 
--- src/reader.rt:122:1
 returns : tie.Need-returns
 returns c =
     let p = c .before .before .before .before .before .before .before in

@@ -1,77 +1,58 @@
+-- `log::reader::id` meets its contract. Assumes nothing.
 use borrow.Author.Needs.{needs}
 use Rattle.base.specs.Lists.{build}
 use Rattle.log.specs.Fields.{id-of}
 use Rattle.log.proofs.reader.id.Statement.{statement}
 use Rattle.log.proofs.reader.id.Tie as tie
-use Rattle.log.proofs.reader.id.Reads as reads
-use Rattle.log.proofs.reader.id.Lts as lts
-use Rattle.base.proofs.bytes.at.Reads as at-reads
 
--- src/reader.rt:41:9
 at-requires : tie.Need-at-requires
 at-requires c κs = search needs
 
--- src/reader.rt:42:9
 at-requires-2 : tie.Need-at-requires-2
 at-requires-2 c κs = search needs
 
--- src/reader.rt:43:9
 at-requires-3 : tie.Need-at-requires-3
 at-requires-3 c κs = search needs
 
--- src/reader.rt:44:9
 at-requires-4 : tie.Need-at-requires-4
 at-requires-4 c κs = search needs
 
--- src/reader.rt:45:9
 at-requires-5 : tie.Need-at-requires-5
 at-requires-5 c κs = search needs
 
--- src/reader.rt:46:9
 at-requires-6 : tie.Need-at-requires-6
 at-requires-6 c κs = search needs
 
--- src/reader.rt:47:9
 at-requires-7 : tie.Need-at-requires-7
 at-requires-7 c κs = search needs
 
--- src/reader.rt:48:9
 at-requires-8 : tie.Need-at-requires-8
 at-requires-8 c κs = search needs
 
--- src/reader.rt:49:9
 at-requires-9 : tie.Need-at-requires-9
 at-requires-9 c κs = search needs
 
--- src/reader.rt:50:9
 at-requires-10 : tie.Need-at-requires-10
 at-requires-10 c κs = search needs
 
--- src/reader.rt:51:9
 at-requires-11 : tie.Need-at-requires-11
 at-requires-11 c κs = search needs
 
--- src/reader.rt:52:9
 at-requires-12 : tie.Need-at-requires-12
 at-requires-12 c κs = search needs
 
--- src/reader.rt:53:9
 at-requires-13 : tie.Need-at-requires-13
 at-requires-13 c κs = search needs
 
--- src/reader.rt:54:9
 at-requires-14 : tie.Need-at-requires-14
 at-requires-14 c κs = search needs
 
--- src/reader.rt:55:9
 at-requires-15 : tie.Need-at-requires-15
 at-requires-15 c κs = search needs
 
--- src/reader.rt:56:9
 at-requires-16 : tie.Need-at-requires-16
 at-requires-16 c κs = search needs
 
--- src/reader.rt:37:1
 returns : tie.Need-returns
 unfolding id-of build
 returns c =

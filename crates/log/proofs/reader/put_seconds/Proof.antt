@@ -1,19 +1,16 @@
+-- `log::reader::put_seconds` meets its contract. Assumes nothing.
 use borrow.Author.Needs.{needs}
-use mathlib.Core.Path.{_≡_, refl, ap, _∙_}
-use mathlib.Core.List.{List, _++_}
-use Prim.Native.Nat.{ℕ, _+_, _*_, _-_, _≤_}
+use mathlib.Core.Path.{_≡_, refl}
+use mathlib.Core.List.{_++_}
+use Prim.Native.Nat.{_+_, _*_, _-_, _≤_}
 use native.Mathlib.Omega.{arith}
 use native.Mathlib.Numerals.{add-one}
-use lib.ListN.{length, drop, set, length-set}
+use lib.ListN.{length, drop, length-set}
 use Rattle.base.specs.Bytes.{le32}
 use Rattle.base.specs.Lists.{build}
 use Rattle.base.specs.LentLaws.{fill-next}
 use Rattle.log.proofs.reader.put_seconds.Statement.{statement}
 use Rattle.log.proofs.reader.put_seconds.Tie as tie
-use Rattle.log.proofs.reader.put_seconds.Reads as reads
-use Rattle.log.proofs.reader.put_seconds.Lts as lts
-use Rattle.base.proofs.bytes.at32.Reads as at32-reads
-use Rattle.log.proofs.reader.size.Reads as size-reads
 
 abbrev Inv-loop : tie.InvT-loop
 Inv-loop log n out₀ i₀ out i = (i ≤ n) × (length out ≡ length out₀) × (out ≡ build i (λ i. le32 log (40 + 6 * i)) ++ drop i out₀)
@@ -21,44 +18,34 @@ Inv-loop log n out₀ i₀ out i = (i ≤ n) × (length out ≡ length out₀) �
 abbrev μ-loop : tie.MeasureT-loop
 μ-loop log n out₀ i₀ out i = n - i
 
--- src/reader.rt:91:5
 loop-holds : tie.Need-loop-holds Inv-loop μ-loop
 unfolding build
 loop-holds c = (search needs, refl, refl)
 
--- src/reader.rt:92:13
 size-requires : tie.Need-size-requires Inv-loop μ-loop
 size-requires c κs = search needs
 
--- src/reader.rt:93:33
 mul-at32 : tie.Need-mul-at32 Inv-loop μ-loop
 mul-at32 c = search needs
 
--- src/reader.rt:93:28
 add-at32 : tie.Need-add-at32 Inv-loop μ-loop
 add-at32 c = search needs
 
--- src/reader.rt:93:18
 at32-requires : tie.Need-at32-requires Inv-loop μ-loop
 at32-requires c κs = search needs
 
--- src/reader.rt:93:9
 mul-out : tie.Need-mul-out Inv-loop μ-loop
 mul-out c = search needs
 
--- src/reader.rt:93:9
 slice-write-out : tie.Need-slice-write-out Inv-loop μ-loop
 slice-write-out c = search needs
 
--- src/reader.rt:94:9
 add-i : tie.Need-add-i Inv-loop μ-loop
 add-i c = search needs
 
--- src/reader.rt:91:5
 loop-less : tie.Need-loop-less Inv-loop μ-loop
 loop-less c = search needs
 
--- src/reader.rt:91:5
 loop-again : tie.Need-loop-again Inv-loop μ-loop
 loop-again c =
     let l = c .before .before .before .loop in
@@ -68,11 +55,9 @@ loop-again c =
       rw (c .at32 .ensures, c .before .size .ensures .0, l .inv .2, add-one (l .i)) (fill-next (λ i. le32 (a .log .now) (40 + 6 * i)) (l .i) (a .out .now) (search needs)),
     )
 
--- src/reader.rt:86:1
 same-length : tie.Need-same-length Inv-loop μ-loop
 same-length c = search needs
 
--- src/reader.rt:86:1
 returns : tie.Need-returns Inv-loop μ-loop
 returns c =
     let l = c .before .loop in

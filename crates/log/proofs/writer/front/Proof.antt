@@ -1,64 +1,46 @@
+-- `log::writer::front` meets its contract. Assumes nothing.
 use borrow.Author.Needs.{needs}
 use Rattle.log.specs.Fields.{length-for}
 use Rattle.log.specs.Contents.{head}
 use Rattle.log.proofs.writer.front.Statement.{statement}
 use Rattle.log.proofs.writer.front.Tie as tie
-use Rattle.log.proofs.writer.front.Reads as reads
-use Rattle.log.proofs.writer.front.Lts as lts
-use Rattle.base.proofs.bytes.le_bytes16.Reads as le-bytes16-reads
-use Rattle.base.proofs.bytes.le_bytes32.Reads as le-bytes32-reads
-use Rattle.log.proofs.writer.half.Reads as half-reads
-use Rattle.log.proofs.writer.word.Reads as word-reads
 
--- src/writer.rt:50:24
 half-requires : tie.Need-half-requires
 half-requires c κs = search needs
 
--- src/writer.rt:50:13
 le-bytes16-requires : tie.Need-le-bytes16-requires
 le-bytes16-requires c κs = search needs
 
--- src/writer.rt:51:33
 word-requires : tie.Need-word-requires
 word-requires c κs = search needs
 
--- src/writer.rt:51:29
 mul-le-bytes32 : tie.Need-mul-le-bytes32
 mul-le-bytes32 c = search needs
 
--- src/writer.rt:51:24
 add-le-bytes32 : tie.Need-add-le-bytes32
 add-le-bytes32 c = search needs
 
--- src/writer.rt:51:13
 le-bytes32-requires : tie.Need-le-bytes32-requires
 le-bytes32-requires c κs = search needs
 
--- src/writer.rt:59:9
 array-read-t13 : tie.Need-array-read-t13
 array-read-t13 c = search needs
 
--- src/writer.rt:60:9
 array-read-t16 : tie.Need-array-read-t16
 array-read-t16 c = search needs
 
--- src/writer.rt:69:9
 array-read-t19 : tie.Need-array-read-t19
 array-read-t19 c = search needs
 
--- src/writer.rt:70:9
 array-read-t22 : tie.Need-array-read-t22
 array-read-t22 c = search needs
 
--- src/writer.rt:71:9
 array-read-t25 : tie.Need-array-read-t25
 array-read-t25 c = search needs
 
--- src/writer.rt:72:9
 array-read-t28 : tie.Need-array-read-t28
 array-read-t28 c = search needs
 
--- src/writer.rt:46:1
 returns : tie.Need-returns
 unfolding head length-for
 returns c = rw (c .le-bytes32 .ensures, c .before .word .ensures, c .before .before .le-bytes16 .ensures, c .before .before .before .half .ensures)

@@ -1,36 +1,24 @@
+-- `log::writer::write` meets its contract. Assumes nothing.
 use borrow.Author.Needs.{needs}
-use mathlib.Core.Path.{_≡_, refl, sym, ap, _∙_}
+use mathlib.Core.Path.{_≡_, refl, sym, _∙_}
 use native.Mathlib.Omega.{arith}
 use lib.ListN.{length}
 use Rattle.log.specs.AnswerLaws.{write-room}
 use Rattle.base.specs.Lent.{lent}
 use Rattle.log.specs.Fields.{length-for}
-use Rattle.log.specs.Contents.{contents, head, body, requests-bytes, encode}
-use Rattle.log.specs.Answers.{write-verdict, written}
-use Rattle.log.specs.AcceptedLaws.{writable-proper}
-use Rattle.log.specs.AnswerLaws.{write-passed}
+use Rattle.log.specs.Contents.{head, body, requests-bytes, encode}
+use Rattle.log.specs.Answers.{written}
 use Rattle.log.specs.EncodeLaws.{requests-length}
 use Rattle.log.specs.WriteLaws.{all-written}
 use Rattle.log.proofs.writer.write.Statement.{statement}
 use Rattle.log.proofs.writer.write.Tie as tie
-use Rattle.log.proofs.writer.write.Reads as reads
-use Rattle.log.proofs.writer.write.Lts as lts
-use Rattle.base.proofs.bytes.clear8.Reads as clear8-reads
-use Rattle.log.proofs.writer.long.Reads as long-reads
-use Rattle.log.proofs.writer.put_head.Reads as put-head-reads
-use Rattle.log.proofs.writer.put_requests.Reads as put-requests-reads
-use Rattle.log.proofs.writer.put_sum.Reads as put-sum-reads
-use Rattle.log.proofs.writer.write_fault.Reads as write-fault-reads
 
--- src/writer.rt:141:9
 write-fault-requires : tie.Need-write-fault-requires
 write-fault-requires c κs = search needs
 
--- src/writer.rt:142:29
 enum-known-v : tie.Need-enum-known-v
 enum-known-v c = search needs
 
--- src/writer.rt:143:9
 returns : tie.Need-returns
 unfolding written lent
 returns c = rw (← c .before .before .before .write-fault .ensures, c .before .v .given .1) (refl, refl)
@@ -38,45 +26,36 @@ returns c = rw (← c .before .before .before .write-fault .ensures, c .before .
 enum-told : tie.Need-enum-told
 enum-told c = search needs
 
--- src/writer.rt:146:22
 mul-total : tie.Need-mul-total
 mul-total c = search needs
 
--- src/writer.rt:146:17
 add-total : tie.Need-add-total
 add-total c = search needs
 
--- src/writer.rt:147:5
 put-head-requires : tie.Need-put-head-requires
 put-head-requires c κs =
     let ok = write-room _ _ (sym (c .before .before .before .write-fault .ensures) ∙ c .before .enum-told .given .1) in
     (ok .1, omega arith)
 
--- src/writer.rt:148:5
 put-requests-requires : tie.Need-put-requests-requires
 put-requests-requires c κs =
     let ok = write-room _ _ (sym (c .before .before .before .before .before .before .before .write-fault .ensures) ∙ c .before .before .before .before .before .enum-told .given .1) in
     (ok .0, ok .1, omega (arith, c .before .before .before .put-head .kept .1 .1 .0))
 
--- src/writer.rt:149:5
 clear8-requires : tie.Need-clear8-requires
 clear8-requires c κs = search needs
 
--- src/writer.rt:150:5
 put-sum-requires : tie.Need-put-sum-requires
 put-sum-requires c κs =
     let ok = write-room _ _ (sym (c .before .before .before .before .before .before .before .before .before .before .before .before .before .before .before .write-fault .ensures) ∙ c .before .before .before .before .before .before .before .before .before .before .before .before .before .enum-told .given .1) in
     omega (arith, c .before .before .before .clear8 .kept .0, c .before .before .before .before .before .before .before .put-requests .kept .1 .1 .0, c .before .before .before .before .before .before .before .before .before .before .before .put-head .kept .1 .1 .0)
 
--- src/writer.rt:151:21
 long-requires : tie.Need-long-requires
 long-requires c κs = search needs
 
--- src/writer.rt:137:1
 same-length : tie.Need-same-length
 same-length c = search needs
 
--- src/writer.rt:137:1
 returns-2 : tie.Need-returns-2
 unfolding written encode body head length-for
 returns-2 c =

@@ -1,3 +1,4 @@
+-- `online::Cache::start` meets its contract. Assumes nothing.
 use borrow.Author.Needs.{needs}
 use mathlib.Core.Path.{_≡_, _∙_}
 use Rattle.base.specs.RefusalLaws.{from-first}
@@ -5,25 +6,16 @@ use Rattle.log.specs.Conditions.{setup-conditions}
 use Rattle.online.specs.Answers.{start-verdict, started-by, started}
 use Rattle.online.proofs.Cache.start.Statement.{statement}
 use Rattle.online.proofs.Cache.start.Tie as tie
-use Rattle.online.proofs.Cache.start.Reads as reads
-use Rattle.online.proofs.Cache.start.Lts as lts
-use Rattle.log.proofs.setup_fault.Reads as setup-fault-reads
-use Rattle.online.proofs.start.fresh.Reads as fresh-reads
-use Rattle.online.proofs.start.zeros.Reads as zeros-reads
 
--- src/start.rt:55:13
 setup-fault-requires : tie.Need-setup-fault-requires
 setup-fault-requires c κs = search needs
 
--- src/start.rt:56:33
 enum-known-v : tie.Need-enum-known-v
 enum-known-v c = search needs
 
--- src/start.rt:57:17
 zeros-requires : tie.Need-zeros-requires
 zeros-requires c κs = search needs
 
--- src/start.rt:58:13
 returns : tie.Need-returns
 unfolding started started-by start-verdict
 returns c =
@@ -35,11 +27,9 @@ returns c =
 enum-told : tie.Need-enum-told
 enum-told c = search needs
 
--- src/start.rt:63:13
 fresh-requires : tie.Need-fresh-requires
 fresh-requires c κs = search needs
 
--- src/start.rt:52:5
 returns-2 : tie.Need-returns-2
 unfolding started started-by start-verdict
 returns-2 c =

@@ -1,33 +1,25 @@
+-- `online::close::running` meets its contract. Assumes nothing.
 use borrow.Author.Needs.{needs}
 use Rattle.online.specs.Rules.{class-prices, running}
 use Rattle.online.specs.Widths.{running-fits}
 use Rattle.online.proofs.close.running.Statement.{statement}
 use Rattle.online.proofs.close.running.Tie as tie
-use Rattle.online.proofs.close.running.Reads as reads
-use Rattle.online.proofs.close.running.Lts as lts
-use Rattle.online.proofs.close.times.Reads as times-reads
-use Rattle.prices.proofs.of_class.Reads as of-class-reads
 
--- src/close.rt:27:9
 of-class-requires : tie.Need-of-class-requires
 of-class-requires c κs = search needs
 
--- src/close.rt:28:5
 times-requires : tie.Need-times-requires
 times-requires c κs = search needs
 
--- src/close.rt:28:38
 times-requires-2 : tie.Need-times-requires-2
 times-requires-2 c κs = search needs
 
--- src/close.rt:28:5
 add-result : tie.Need-add-result
 unfolding running class-prices
 add-result c =
     let f = running-fits (c .before .before .before .args .cache) (c .before .before .before .pre) in
     record { fits = rw (c .times2 .ensures, c .before .times .ensures, c .before .before .of-class .ensures) f }
 
--- src/close.rt:23:1
 returns : tie.Need-returns
 unfolding running class-prices
 returns c = rw (c .times2 .ensures, c .before .times .ensures, c .before .before .of-class .ensures)

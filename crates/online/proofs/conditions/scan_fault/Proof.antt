@@ -1,53 +1,38 @@
+-- `online::conditions::scan_fault` meets its contract. Assumes nothing.
 use borrow.Author.Needs.{needs}
 use Rattle.base.specs.RefusalLaws.{from, from-first}
 use Rattle.online.specs.Conditions.{scan-conditions}
 use Rattle.online.specs.Answers.{scan-verdict}
 use Rattle.online.proofs.conditions.scan_fault.Statement.{statement}
 use Rattle.online.proofs.conditions.scan_fault.Tie as tie
-use Rattle.online.proofs.conditions.scan_fault.Reads as reads
-use Rattle.online.proofs.conditions.scan_fault.Lts as lts
-use Rattle.base.proofs.refusals.or_else.Reads as or-else-reads
-use Rattle.online.proofs.conditions.broken.Reads as broken-reads
-use Rattle.online.proofs.conditions.outside.Reads as outside-reads
-use Rattle.online.proofs.state.half.Reads as half-reads
 
--- src/conditions.rt:111:38
 half-requires : tie.Need-half-requires
 half-requires c κs = search needs
 
--- src/conditions.rt:111:9
 or-else-requires : tie.Need-or-else-requires
 or-else-requires c κs = search needs
 
--- src/conditions.rt:112:24
 outside-requires : tie.Need-outside-requires
 outside-requires c κs = search needs
 
--- src/conditions.rt:112:9
 or-else-requires-2 : tie.Need-or-else-requires-2
 or-else-requires-2 c κs = search needs
 
--- src/conditions.rt:113:24
 broken-requires : tie.Need-broken-requires
 broken-requires c κs = search needs
 
--- src/conditions.rt:113:9
 or-else-requires-3 : tie.Need-or-else-requires-3
 or-else-requires-3 c κs = search needs
 
--- src/conditions.rt:114:9
 or-else-requires-4 : tie.Need-or-else-requires-4
 or-else-requires-4 c κs = search needs
 
--- src/conditions.rt:115:9
 or-else-requires-5 : tie.Need-or-else-requires-5
 or-else-requires-5 c κs = search needs
 
--- src/conditions.rt:116:5
 or-else-requires-6 : tie.Need-or-else-requires-6
 or-else-requires-6 c κs = search needs
 
--- src/conditions.rt:108:1
 returns : tie.Need-returns
 unfolding scan-verdict scan-conditions from
 returns c =

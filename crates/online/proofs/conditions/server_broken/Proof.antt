@@ -1,3 +1,4 @@
+-- `online::conditions::server_broken` meets its contract. Assumes nothing.
 use borrow.Author.Needs.{needs}
 use borrow.Author.Tests.{lt-ltb, le-ltb, le-leb, lt-leb, eq-eqb, ne-eqb}
 use mathlib.Core.Path.{sym}
@@ -5,34 +6,22 @@ use Rattle.online.specs.ConditionLaws.{any-holds, either-fails}
 use Rattle.online.specs.Conditions.{any-of, server-faults, server-broken}
 use Rattle.online.proofs.conditions.server_broken.Statement.{statement}
 use Rattle.online.proofs.conditions.server_broken.Tie as tie
-use Rattle.online.proofs.conditions.server_broken.Reads as reads
-use Rattle.online.proofs.conditions.server_broken.Lts as lts
-use Rattle.online.proofs.state.copy_at.Reads as copy-at-reads
-use Rattle.online.proofs.state.expiry.Reads as expiry-reads
-use Rattle.online.proofs.state.half.Reads as half-reads
-use Rattle.online.proofs.state.use_at.Reads as use-at-reads
-use Rattle.online.proofs.state.wide.Reads as wide-reads
 
--- src/conditions.rt:41:9
 use-at-requires : tie.Need-use-at-requires
 use-at-requires c κs = search needs
 
--- src/conditions.rt:43:9
 returns : tie.Need-returns
 unfolding server-broken
 returns c =
     let a = c .before .before .before .args in
     sym (any-holds (server-faults (a .cache) (a .y)) 1 (rw (← c .before .before .use-at .ensures) (lt-ltb _ _ (c .if1 .taken))))
 
--- src/conditions.rt:45:8
 copy-at-requires : tie.Need-copy-at-requires
 copy-at-requires c κs = search needs
 
--- src/conditions.rt:46:12
 half-requires : tie.Need-half-requires
 half-requires c κs = search needs
 
--- src/conditions.rt:47:13
 returns-2 : tie.Need-returns-2
 unfolding server-broken
 returns-2 c =
@@ -40,22 +29,18 @@ returns-2 c =
     let full = rw (c .before .half .ensures .0) at (c .if3 .taken) in
     sym (any-holds (server-faults (a .cache) (a .y)) 0 (rw (← c .before .before .before .copy-at .ensures, c .before .before .if2 .taken) (le-leb _ _ full)))
 
--- src/conditions.rt:50:13
 returns-3 : tie.Need-returns-3
 unfolding server-broken any-of
 returns-3 c =
     let room = rw (c .before .before .before .half .ensures .0) at (c .before .before .if3 .left) in
     rw (← c .before .before .before .before .before .before .before .before .use-at .ensures, ← c .before .before .before .before .before .copy-at .ensures, c .before .before .before .before .if2 .taken, le-ltb _ _ (c .before .before .before .before .before .before .if1 .left), lt-leb _ _ room, eq-eqb _ _ (c .if4 .taken))
 
--- src/conditions.rt:52:16
 expiry-requires : tie.Need-expiry-requires
 expiry-requires c κs = search needs
 
--- src/conditions.rt:52:39
 wide-requires : tie.Need-wide-requires
 wide-requires c κs = search needs
 
--- src/conditions.rt:52:9
 returns-4 : tie.Need-returns-4
 unfolding server-broken any-of
 returns-4 c =
@@ -73,7 +58,6 @@ returns-4 c =
     )
     (sym (either-fails _))
 
--- src/conditions.rt:37:1
 returns-5 : tie.Need-returns-5
 unfolding server-broken any-of
 returns-5 c = rw (← c .before .before .before .before .use-at .ensures, ← c .before .copy-at .ensures, c .if2 .left, le-ltb _ _ (c .before .before .if1 .left), either-fails)

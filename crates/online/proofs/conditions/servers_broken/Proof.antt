@@ -1,3 +1,4 @@
+-- `online::conditions::servers_broken` meets its contract. Assumes nothing.
 use borrow.Author.Needs.{needs}
 use mathlib.Core.Bool.{false}
 use mathlib.Core.Path.{_≡_, refl, sym, _∙_}
@@ -9,10 +10,6 @@ use Rattle.online.specs.Conditions.{server-broken}
 use Rattle.online.specs.ConditionLaws.{some-server-one}
 use Rattle.online.proofs.conditions.servers_broken.Statement.{statement}
 use Rattle.online.proofs.conditions.servers_broken.Tie as tie
-use Rattle.online.proofs.conditions.servers_broken.Reads as reads
-use Rattle.online.proofs.conditions.servers_broken.Lts as lts
-use Rattle.online.proofs.conditions.server_broken.Reads as server-broken-reads
-use Rattle.online.proofs.state.window_of.Reads as window-of-reads
 
 abbrev Inv-loop : tie.InvT-loop
 Inv-loop cache window y₀ y = (y ≤ 64) × (some-server y (server-broken cache) ≡ false)
@@ -20,41 +17,33 @@ Inv-loop cache window y₀ y = (y ≤ 64) × (some-server y (server-broken cache
 abbrev μ-loop : tie.MeasureT-loop
 μ-loop cache window y₀ y = 64 - y
 
--- src/conditions.rt:61:9
 window-of-requires : tie.Need-window-of-requires Inv-loop μ-loop
 window-of-requires c κs = search needs
 
--- src/conditions.rt:63:5
 loop-holds : tie.Need-loop-holds Inv-loop μ-loop
 unfolding some-server
 loop-holds c = (search needs, refl)
 
--- src/conditions.rt:64:12
 server-broken-requires : tie.Need-server-broken-requires Inv-loop μ-loop
 server-broken-requires c κs = search needs
 
--- src/conditions.rt:65:13
 returns : tie.Need-returns Inv-loop μ-loop
 returns c =
     let l = c .before .before .before .loop in
     sym (some-server-one 64 (server-broken (c .before .before .before .before .before .args .cache)) (l .y) (omega arith) (sym (c .before .server-broken .ensures) ∙ c .if1 .taken))
 
--- src/conditions.rt:67:9
 add-y : tie.Need-add-y Inv-loop μ-loop
 add-y c = search needs
 
--- src/conditions.rt:63:5
 loop-less : tie.Need-loop-less Inv-loop μ-loop
 loop-less c = search needs
 
--- src/conditions.rt:63:5
 loop-again : tie.Need-loop-again Inv-loop μ-loop
 unfolding some-server
 loop-again c =
     let l = c .before .before .before .loop in
     (search needs, rw (add-one (l .y), ← c .before .server-broken .ensures, c .if1 .left) (l .inv .1))
 
--- src/conditions.rt:58:1
 returns-2 : tie.Need-returns-2 Inv-loop μ-loop
 returns-2 c =
     let l = c .before .loop in

@@ -1,40 +1,28 @@
+-- `online::scan::accept` meets its contract. Assumes nothing.
 use borrow.Author.Needs.{needs}
 use native.Mathlib.Numerals.{add-one}
 use Rattle.online.specs.Rules.{accept}
 use Rattle.online.proofs.scan.accept.Statement.{statement}
 use Rattle.online.proofs.scan.accept.Tie as tie
-use Rattle.online.proofs.scan.accept.Reads as reads
-use Rattle.online.proofs.scan.accept.Lts as lts
-use Rattle.online.proofs.scan.all_seconds.Reads as all-seconds-reads
-use Rattle.online.proofs.scan.next_holders.Reads as next-holders-reads
-use Rattle.online.proofs.scan.next_transfers.Reads as next-transfers-reads
-use Rattle.online.proofs.scan.next_uses.Reads as next-uses-reads
 
--- src/scan.rt:204:9
 next-uses-requires : tie.Need-next-uses-requires
 next-uses-requires c κs = search needs
 
--- src/scan.rt:211:18
 next-holders-requires : tie.Need-next-holders-requires
 next-holders-requires c κs = search needs
 
--- src/scan.rt:212:19
 add-t5 : tie.Need-add-t5
 add-t5 c = search needs
 
--- src/scan.rt:213:20
 next-transfers-requires : tie.Need-next-transfers-requires
 next-transfers-requires c κs = search needs
 
--- src/scan.rt:214:28
 all-seconds-requires : tie.Need-all-seconds-requires
 all-seconds-requires c κs = search needs
 
--- src/scan.rt:214:15
 add-t8 : tie.Need-add-t8
 add-t8 c = search needs
 
--- src/scan.rt:200:1
 returns : tie.Need-returns
 unfolding accept
 returns c =

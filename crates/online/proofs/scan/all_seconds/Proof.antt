@@ -1,3 +1,4 @@
+-- `online::scan::all_seconds` meets its contract. Assumes nothing.
 use borrow.Author.Needs.{needs}
 use mathlib.Core.Path.{_≡_, refl}
 use Prim.Native.Nat.{_-_, _*_, _≤_}
@@ -9,9 +10,6 @@ use Rattle.online.specs.ServerLaws.{across-suc}
 use Rattle.online.specs.Rules.{seconds}
 use Rattle.online.proofs.scan.all_seconds.Statement.{statement}
 use Rattle.online.proofs.scan.all_seconds.Tie as tie
-use Rattle.online.proofs.scan.all_seconds.Reads as reads
-use Rattle.online.proofs.scan.all_seconds.Lts as lts
-use Rattle.online.proofs.scan.seconds.Reads as seconds-reads
 
 abbrev Inv-loop : tie.InvT-loop
 Inv-loop cache q held₀ y₀ held y = (y ≤ 64) × (held ≡ across y (seconds cache (q .second))) × (held ≤ 4000000 * y)
@@ -19,34 +17,27 @@ Inv-loop cache q held₀ y₀ held y = (y ≤ 64) × (held ≡ across y (seconds
 abbrev μ-loop : tie.MeasureT-loop
 μ-loop cache q held₀ y₀ held y = 64 - y
 
--- src/scan.rt:181:5
 loop-holds : tie.Need-loop-holds Inv-loop μ-loop
 unfolding across sum
 loop-holds c = (search needs, refl, omega arith)
 
--- src/scan.rt:182:16
 seconds-requires : tie.Need-seconds-requires Inv-loop μ-loop
 seconds-requires c κs = search needs
 
--- src/scan.rt:182:16
 add-held : tie.Need-add-held Inv-loop μ-loop
 add-held c = search needs
 
--- src/scan.rt:183:9
 add-y : tie.Need-add-y Inv-loop μ-loop
 add-y c = search needs
 
--- src/scan.rt:181:5
 loop-less : tie.Need-loop-less Inv-loop μ-loop
 loop-less c = search needs
 
--- src/scan.rt:181:5
 loop-again : tie.Need-loop-again Inv-loop μ-loop
 loop-again c =
     let l = c .before .before .loop in
     (search needs, rw (add-one (l .y), across-suc, ← l .inv .1, c .seconds .ensures .0), omega arith)
 
--- src/scan.rt:175:1
 returns : tie.Need-returns Inv-loop μ-loop
 returns c =
     let l = c .before .loop in

@@ -1,15 +1,12 @@
+-- `online::scan::mark` meets its contract. Assumes nothing.
 use Rattle.online.specs.Answers.{mark-outcome}
 use Rattle.online.proofs.scan.mark.Statement.{statement}
 use Rattle.online.proofs.scan.mark.Tie as tie
-use Rattle.online.proofs.scan.mark.Reads as reads
-use Rattle.online.proofs.scan.mark.Lts as lts
 
--- src/scan.rt:225:9
 returns : tie.Need-returns
 unfolding mark-outcome
 returns c = rw (← c .before .pre .mark, c .if1 .taken)
 
--- src/scan.rt:220:1
 returns-2 : tie.Need-returns-2
 unfolding mark-outcome
 returns-2 c = rw (← c .before .pre .mark, c .if1 .left)

@@ -1,3 +1,4 @@
+-- `online::scan::next_holders` meets its contract. Assumes nothing.
 use borrow.Author.Needs.{needs}
 use mathlib.Core.Path.{_≡_, refl}
 use Prim.Native.Nat.{_-_, _≤_}
@@ -7,10 +8,6 @@ use Rattle.online.specs.Servers.{set-of}
 use Rattle.online.specs.Rules.{stands}
 use Rattle.online.proofs.scan.next_holders.Statement.{statement}
 use Rattle.online.proofs.scan.next_holders.Tie as tie
-use Rattle.online.proofs.scan.next_holders.Reads as reads
-use Rattle.online.proofs.scan.next_holders.Lts as lts
-use Rattle.online.proofs.scan.put_if.Reads as put-if-reads
-use Rattle.online.proofs.scan.stands.Reads as stands-reads
 
 abbrev Inv-loop : tie.InvT-loop
 Inv-loop cache q holders₀ y₀ holders y = (y ≤ 64) × (holders ≡ set-of y (stands cache (q .second) (q .server)))
@@ -18,35 +15,28 @@ Inv-loop cache q holders₀ y₀ holders y = (y ≤ 64) × (holders ≡ set-of y
 abbrev μ-loop : tie.MeasureT-loop
 μ-loop cache q holders₀ y₀ holders y = 64 - y
 
--- src/scan.rt:167:5
 loop-holds : tie.Need-loop-holds Inv-loop μ-loop
 unfolding set-of
 loop-holds c = (search needs, refl)
 
--- src/scan.rt:168:35
 stands-requires : tie.Need-stands-requires Inv-loop μ-loop
 stands-requires c κs = search needs
 
--- src/scan.rt:168:9
 put-if-requires : tie.Need-put-if-requires Inv-loop μ-loop
 put-if-requires c κs = search needs
 
--- src/scan.rt:169:9
 add-y : tie.Need-add-y Inv-loop μ-loop
 add-y c = search needs
 
--- src/scan.rt:167:5
 loop-less : tie.Need-loop-less Inv-loop μ-loop
 loop-less c = search needs
 
--- src/scan.rt:167:5
 loop-again : tie.Need-loop-again Inv-loop μ-loop
 unfolding set-of
 loop-again c =
     let l = c .before .before .before .loop in
     (search needs, rw (add-one (l .y), ← l .inv .1, c .put-if .ensures, c .before .stands .ensures))
 
--- src/scan.rt:161:1
 returns : tie.Need-returns Inv-loop μ-loop
 returns c =
     let l = c .before .loop in

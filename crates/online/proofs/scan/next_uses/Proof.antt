@@ -1,3 +1,4 @@
+-- `online::scan::next_uses` meets its contract. Assumes nothing.
 use borrow.Author.Needs.{needs}
 use mathlib.Core.List.{_++_, append-nil}
 use mathlib.Core.Path.{_≡_, refl, _∙_}
@@ -10,10 +11,6 @@ use Rattle.base.specs.LentLaws.{fill-next}
 use Rattle.online.specs.Rules.{next-use}
 use Rattle.online.proofs.scan.next_uses.Statement.{statement}
 use Rattle.online.proofs.scan.next_uses.Tie as tie
-use Rattle.online.proofs.scan.next_uses.Reads as reads
-use Rattle.online.proofs.scan.next_uses.Lts as lts
-use Rattle.online.proofs.scan.next_use.Reads as next-use-reads
-use Rattle.online.proofs.scan.size.Reads as size-reads
 
 abbrev Inv-loop : tie.InvT-loop
 Inv-loop cache q last-use₀ y₀ last-use y =
@@ -22,36 +19,28 @@ Inv-loop cache q last-use₀ y₀ last-use y =
 abbrev μ-loop : tie.MeasureT-loop
 μ-loop cache q last-use₀ y₀ last-use y = 64 - y
 
--- src/scan.rt:152:5
 loop-holds : tie.Need-loop-holds Inv-loop μ-loop
 unfolding build
 loop-holds c = (search needs, refl, refl)
 
--- src/scan.rt:153:13
 size-requires : tie.Need-size-requires Inv-loop μ-loop
 size-requires c κs = search needs
 
--- src/scan.rt:154:24
 next-use-requires : tie.Need-next-use-requires Inv-loop μ-loop
 next-use-requires c κs = search needs
 
--- src/scan.rt:154:9
 mul-last-use : tie.Need-mul-last-use Inv-loop μ-loop
 mul-last-use c = search needs
 
--- src/scan.rt:154:9
 array-write-last-use : tie.Need-array-write-last-use Inv-loop μ-loop
 array-write-last-use c = search needs
 
--- src/scan.rt:155:9
 add-y : tie.Need-add-y Inv-loop μ-loop
 add-y c = search needs
 
--- src/scan.rt:152:5
 loop-less : tie.Need-loop-less Inv-loop μ-loop
 loop-less c = search needs
 
--- src/scan.rt:152:5
 loop-again : tie.Need-loop-again Inv-loop μ-loop
 loop-again c =
     let l = c .before .before .before .loop in
@@ -63,7 +52,6 @@ loop-again c =
       rw (c .next-use .ensures, c .before .size .ensures, l .inv .2, add-one (l .y)) (fill-next f (l .y) (replicate 64 0) i),
     )
 
--- src/scan.rt:146:1
 returns : tie.Need-returns Inv-loop μ-loop
 returns c =
     let l = c .before .loop in

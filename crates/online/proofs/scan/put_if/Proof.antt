@@ -1,20 +1,15 @@
+-- `online::scan::put_if` meets its contract. Assumes nothing.
 use borrow.Author.Needs.{needs}
 use borrow.Author.Tests.{lt-ltb}
 use Rattle.online.proofs.scan.put_if.Statement.{statement}
 use Rattle.online.proofs.scan.put_if.Tie as tie
-use Rattle.online.proofs.scan.put_if.Reads as reads
-use Rattle.online.proofs.scan.put_if.Lts as lts
-use Rattle.base.proofs.sets.put.Reads as put-reads
 
--- src/scan.rt:140:9
 put-requires : tie.Need-put-requires
 put-requires c κs = search needs
 
--- src/scan.rt:140:9
 returns : tie.Need-returns
 returns c = rw (c .put .ensures, c .before .if1 .taken, lt-ltb _ _ (c .before .before .pre))
 
--- src/scan.rt:135:1
 returns-2 : tie.Need-returns-2
 returns-2 c = search needs
 

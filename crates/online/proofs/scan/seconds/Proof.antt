@@ -1,3 +1,4 @@
+-- `online::scan::seconds` meets its contract. Assumes nothing.
 use borrow.Author.Needs.{needs}
 use mathlib.Core.Path.{refl, ap, _∙_}
 use Prim.Native.Nat.{ℕ, _-_}
@@ -6,44 +7,30 @@ use borrow.Author.Tests.{eq-eqb, ne-eqb, not-true, not-false}
 use Rattle.online.specs.Rules.{seconds}
 use Rattle.online.proofs.scan.seconds.Statement.{statement}
 use Rattle.online.proofs.scan.seconds.Tie as tie
-use Rattle.online.proofs.scan.seconds.Reads as reads
-use Rattle.online.proofs.scan.seconds.Lts as lts
-use Rattle.online.proofs.scan.minus.Reads as minus-reads
-use Rattle.online.proofs.scan.until.Reads as until-reads
-use Rattle.online.proofs.state.copy_at.Reads as copy-at-reads
-use Rattle.online.proofs.state.use_at.Reads as use-at-reads
 
--- src/scan.rt:125:9
 minus-requires : tie.Need-minus-requires
 minus-requires c κs = search needs
 
--- src/scan.rt:125:9
 returns : tie.Need-returns
 unfolding seconds
 returns c = rw (eq-eqb _ _ (c .before .if1 .taken)) (c .minus .ensures)
 
--- src/scan.rt:127:9
 copy-at-requires : tie.Need-copy-at-requires
 copy-at-requires c κs = search needs
 
--- src/scan.rt:128:9
 returns-2 : tie.Need-returns-2
 unfolding seconds
 returns-2 c = rw (ne-eqb _ _ (c .before .before .if1 .left), ← c .before .copy-at .ensures, not-true (c .before .copy-at .result) (c .if2 .taken)) (refl, omega arith)
 
--- src/scan.rt:130:31
 use-at-requires : tie.Need-use-at-requires
 use-at-requires c κs = search needs
 
--- src/scan.rt:130:9
 until-requires : tie.Need-until-requires
 until-requires c κs = search needs
 
--- src/scan.rt:131:5
 minus-requires-2 : tie.Need-minus-requires-2
 minus-requires-2 c κs = search needs
 
--- src/scan.rt:120:1
 returns-3 : tie.Need-returns-3
 unfolding seconds
 returns-3 c =

@@ -1,21 +1,17 @@
+-- `online::scan::uses` meets its contract. Assumes nothing.
 use borrow.Author.Tests.{eq-eqb, ne-eqb}
 use Rattle.online.specs.Rules.{uses}
 use Rattle.online.proofs.scan.uses.Statement.{statement}
 use Rattle.online.proofs.scan.uses.Tie as tie
-use Rattle.online.proofs.scan.uses.Reads as reads
-use Rattle.online.proofs.scan.uses.Lts as lts
 
--- src/scan.rt:86:9
 returns : tie.Need-returns
 unfolding uses
 returns c = rw (eq-eqb _ _ (c .if1 .taken))
 
--- src/scan.rt:89:9
 returns-2 : tie.Need-returns-2
 unfolding uses
 returns-2 c = rw (ne-eqb _ _ (c .before .if1 .left), ← c .before .before .before .pre .mark, c .if2 .taken)
 
--- src/scan.rt:81:1
 returns-3 : tie.Need-returns-3
 unfolding uses
 returns-3 c = rw (ne-eqb _ _ (c .before .before .if1 .left), ← c .before .before .before .before .pre .mark, c .before .if2 .left)

@@ -1,22 +1,16 @@
+-- `online::start::fresh` meets its contract. Assumes nothing.
 use borrow.Author.Needs.{needs}
 use Rattle.online.specs.Rules.{fresh}
 use Rattle.online.specs.StartLaws.{build-const, set-one}
 use Rattle.online.proofs.start.fresh.Statement.{statement}
 use Rattle.online.proofs.start.fresh.Tie as tie
-use Rattle.online.proofs.start.fresh.Reads as reads
-use Rattle.online.proofs.start.fresh.Lts as lts
-use Rattle.base.proofs.sets.put.Reads as put-reads
-use Rattle.online.proofs.state.half.Reads as half-reads
 
--- src/start.rt:17:9
 half-requires : tie.Need-half-requires
 half-requires c κs = search needs
 
--- src/start.rt:24:18
 put-requires : tie.Need-put-requires
 put-requires c κs = search needs
 
--- src/start.rt:14:1
 returns : tie.Need-returns
 unfolding fresh
 returns c = rw (build-const 64 0, set-one 64 (c .before .before .args .home), c .put .ensures, c .before .half .ensures .0)

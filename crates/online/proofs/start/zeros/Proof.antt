@@ -1,11 +1,9 @@
+-- `online::start::zeros` meets its contract. Assumes nothing.
 use Rattle.online.specs.Rules.{zeros}
 use Rattle.online.specs.StartLaws.{build-const}
 use Rattle.online.proofs.start.zeros.Statement.{statement}
 use Rattle.online.proofs.start.zeros.Tie as tie
-use Rattle.online.proofs.start.zeros.Reads as reads
-use Rattle.online.proofs.start.zeros.Lts as lts
 
--- src/start.rt:33:1
 returns : tie.Need-returns
 unfolding zeros
 returns c = rw (build-const 64 0)

@@ -1,31 +1,24 @@
+-- `planner::answer::plan` meets its contract. Assumes nothing.
 use Rattle.planner.specs.Loading.{setup-of}
 use Rattle.planner.specs.SetupLaws.{loaded-log, loaded-refused, setup-requests, setup-ready, setup-within}
 use Rattle.planner.specs.PlanAnswer.{answer-of}
 use Rattle.planner.specs.PlanRight.{log-refused, log-answered}
 use Rattle.log.specs.AcceptedLaws.{accepted-sound}
 use Rattle.log.specs.Conditions.{verdict-of, Accepted}
-use mathlib.Core.Path.{_≡_, refl, sym, ap, ap₂, _∙_}
+use mathlib.Core.Path.{refl}
 use borrow.Author.Needs.{needs}
 use Rattle.planner.proofs.answer.plan.Statement.{statement}
 use Rattle.planner.proofs.answer.plan.Tie as tie
-use Rattle.planner.proofs.answer.plan.Reads as reads
-use Rattle.planner.proofs.answer.plan.Lts as lts
-use Rattle.planner.proofs.answer.plan_of.Reads as plan-of-reads
-use Rattle.planner.proofs.requests.load.Reads as load-reads
 
--- src/answer.rt:89:9
 load-requires : tie.Need-load-requires
 load-requires c κs = search needs
 
--- src/answer.rt:91:25
 enum-known-loaded : tie.Need-enum-known-loaded
 enum-known-loaded c = search needs
 
--- src/answer.rt:92:21
 enum-known-loaded-2 : tie.Need-enum-known-loaded-2
 enum-known-loaded-2 c = search needs
 
--- src/answer.rt:92:31
 plan-of-requires : tie.Need-plan-of-requires
 unfolding Accepted setup-of
 plan-of-requires c κs =
@@ -39,7 +32,6 @@ plan-of-requires c κs =
       ),
     )
 
--- src/answer.rt:81:1
 returns : tie.Need-returns
 unfolding answer-of
 returns c =
@@ -49,15 +41,12 @@ returns c =
     let t = log-refused log (a .marks .now) (a .rows .now) _ _ (loaded-refused (verdict-of log) log (r .load .result) _ (r .load .ensures .0) (c .before .loaded .given .1)) refl in
     (t .0, (t .1, t .2))
 
--- src/answer.rt:81:1
 same-length : tie.Need-same-length
 same-length c = search needs
 
--- src/answer.rt:81:1
 same-length-2 : tie.Need-same-length-2
 same-length-2 c = search needs
 
--- src/answer.rt:81:1
 returns-2 : tie.Need-returns-2
 unfolding Accepted
 returns-2 c =

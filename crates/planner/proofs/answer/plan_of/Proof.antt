@@ -1,49 +1,34 @@
+-- `planner::answer::plan_of` meets its contract. Assumes nothing.
 use Rattle.planner.specs.Asked.{asks}
 use Rattle.planner.specs.FillLaws.{filled-tabled}
 use Rattle.planner.specs.PlanRight.{spelt-front, lettered-front, cost-front, plan-marked, plan-answered}
-use Rattle.model.specs.TableLists.{at}
-use lib.ListN.{length}
-use mathlib.Core.Path.{_≡_, refl, sym, ap, ap₂, _∙_}
-use Prim.Native.Nat.{ℕ, _≤_}
 use native.Mathlib.Omega.{arith}
 use borrow.Author.Needs.{needs}
 use Rattle.planner.proofs.answer.plan_of.Statement.{statement}
 use Rattle.planner.proofs.answer.plan_of.Tie as tie
 use Rattle.planner.proofs.answer.plan_of.Reads as reads
-use Rattle.planner.proofs.answer.plan_of.Lts as lts
-use Rattle.planner.proofs.answer.answer.Reads as answer-reads
-use Rattle.planner.proofs.reads.size.Reads as size-reads
-use Rattle.planner.proofs.table.fill.Reads as fill-reads
-use Rattle.planner.proofs.walk.write_marks.Reads as write-marks-reads
 
--- src/answer.rt:75:55
 slice-aggregate-fill : tie.Need-slice-aggregate-fill
 slice-aggregate-fill c = search needs
 
--- src/answer.rt:75:67
 slice-aggregate-fill-2 : tie.Need-slice-aggregate-fill-2
 slice-aggregate-fill-2 c = search needs
 
--- src/answer.rt:75:5
 fill-requires : tie.Need-fill-requires
 fill-requires c κs =
     let s = c .before .before .before .before in
     let few = s .pre .0 .fits .requests-most in
     (s .pre .0, (omega arith, omega arith))
 
--- src/answer.rt:76:59
 slice-aggregate-write-marks : tie.Need-slice-aggregate-write-marks
 slice-aggregate-write-marks c = search needs
 
--- src/answer.rt:76:67
 slice-aggregate-write-marks-2 : tie.Need-slice-aggregate-write-marks-2
 slice-aggregate-write-marks-2 c = search needs
 
--- src/answer.rt:76:78
 slice-aggregate-write-marks-3 : tie.Need-slice-aggregate-write-marks-3
 slice-aggregate-write-marks-3 c = search needs
 
--- src/answer.rt:76:5
 write-marks-requires : tie.Need-write-marks-requires
 write-marks-requires c κs =
     let f = c .before .before .before .before .before in
@@ -57,23 +42,18 @@ write-marks-requires c κs =
       ),
     )
 
--- src/answer.rt:77:41
 size-requires : tie.Need-size-requires
 size-requires c κs = search needs
 
--- src/answer.rt:77:35
 mul-answer : tie.Need-mul-answer
 mul-answer c = search needs
 
--- src/answer.rt:77:35
 array-read-answer : tie.Need-array-read-answer
 array-read-answer c = search needs
 
--- src/answer.rt:77:69
 slice-aggregate-answer : tie.Need-slice-aggregate-answer
 slice-aggregate-answer c = search needs
 
--- src/answer.rt:77:5
 answer-requires : tie.Need-answer-requires
 answer-requires c κs =
     let w = c .before .before .before .before .before .before .before in
@@ -85,15 +65,12 @@ answer-requires c κs =
     (lettered-front (a .setup .prices) (asks (a .seconds .now) (a .servers .now)) (a .setup .requests) _ _ (w .write-marks .ensures))
     (spelt-front (a .setup .prices) (asks (a .seconds .now) (a .servers .now)) (a .setup .requests) _ _ (w .write-marks .ensures))
 
--- src/answer.rt:66:1
 same-length : tie.Need-same-length
 same-length c = search needs
 
--- src/answer.rt:66:1
 same-length-2 : tie.Need-same-length-2
 same-length-2 c = search needs
 
--- src/answer.rt:66:1
 returns : tie.Need-returns
 returns c =
     let w = c .before .before .before .before .before .before .before .before .before .before .before .before in

@@ -1,12 +1,12 @@
+-- `planner::costs::costs_of` meets its contract. Assumes nothing.
 use Rattle.planner.specs.Asked.{asks}
 use Rattle.planner.specs.LeastAnswer.{costs-answer}
 use Rattle.planner.specs.LeastAnswerLaws.{no-room, room, costs-lent}
-use Rattle.model.specs.TableLists.{lists}
 use Rattle.base.specs.Lists.{cleared}
 use Rattle.base.specs.Lent.{lent}
-use lib.ListN.{length, drop}
-use mathlib.Core.List.{List, _++_}
-use mathlib.Core.Path.{_≡_, refl, sym, ap, ap₂, _∙_}
+use lib.ListN.{length}
+use mathlib.Core.List.{List}
+use mathlib.Core.Path.{_≡_, ap, ap₂, _∙_}
 use native.Mathlib.Numerals.{add-one}
 use native.Mathlib.Omega.{arith}
 use Prim.Native.Nat.{ℕ, suc, _+_, _≤_}
@@ -14,21 +14,13 @@ use borrow.Author.Needs.{needs}
 use Rattle.planner.proofs.costs.costs_of.Statement.{statement}
 use Rattle.planner.proofs.costs.costs_of.Tie as tie
 use Rattle.planner.proofs.costs.costs_of.Reads as reads
-use Rattle.planner.proofs.costs.costs_of.Lts as lts
-use Rattle.base.proofs.bytes.clear64.Reads as clear64-reads
-use Rattle.planner.proofs.costs.prefixes.Reads as prefixes-reads
-use Rattle.planner.proofs.reads.size.Reads as size-reads
-use Rattle.planner.proofs.table.fill.Reads as fill-reads
 
--- src/costs.rt:35:18
 size-requires : tie.Need-size-requires
 size-requires c κs = search needs
 
--- src/costs.rt:35:18
 add-needed : tie.Need-add-needed
 add-needed c = search needs
 
--- src/costs.rt:37:9
 returns : tie.Need-returns
 unfolding costs-answer lent
 returns c =
@@ -37,29 +29,23 @@ returns c =
     let v = no-room (a .setup .requests) (a .costs .now) (omega (arith, e)) in
     (rw (v, e, add-one (a .setup .requests)), rw v)
 
--- src/costs.rt:43:75
 slice-aggregate-fill : tie.Need-slice-aggregate-fill
 slice-aggregate-fill c = search needs
 
--- src/costs.rt:43:5
 fill-requires : tie.Need-fill-requires
 fill-requires c κs =
     let s = c .before .before .before .before .before in
     (s .pre, (omega (arith, c .before .before .before .size .ensures .0), omega (arith, s .pre .fits .requests-most)))
 
--- src/costs.rt:44:5
 clear64-requires : tie.Need-clear64-requires
 clear64-requires c κs = search needs
 
--- src/costs.rt:45:23
 prefixes-requires : tie.Need-prefixes-requires
 prefixes-requires c κs = search needs
 
--- src/costs.rt:30:1
 same-length : tie.Need-same-length
 same-length c = search needs
 
--- src/costs.rt:30:1
 returns-2 : tie.Need-returns-2
 unfolding costs-answer
 returns-2 c =

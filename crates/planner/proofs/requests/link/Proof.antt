@@ -1,20 +1,18 @@
+-- `planner::requests::link` meets its contract. Assumes nothing.
 use borrow.Author.Needs.{needs}
 use native.Mathlib.Numerals.{add-one}
 use native.Mathlib.Omega.{arith}
 use Prim.Native.Nat.{ℕ, suc, _+_, _-_, _≤_}
 use lib.ListN.{length, length-set}
 use mathlib.Core.List.{List}
-use mathlib.Core.Path.{_≡_, refl, sym, ap, ap₂, _∙_}
+use mathlib.Core.Path.{_≡_, refl, ap, ap₂, _∙_}
 use Rattle.base.specs.Lists.{build, build-length, cleared}
-use Rattle.base.specs.declared.Verdict.the-variants.{Passed}
-use Rattle.base.specs.Lent.{lent}
 use Rattle.base.specs.LentLaws.{lent-front}
 use Rattle.model.specs.TableLists.{at}
 use Rattle.planner.specs.Loading.{links}
 use Rattle.planner.specs.LinkLaws.{recents, recents-zero, recents-next, links-front, links-next}
 use Rattle.planner.proofs.requests.link.Statement.{statement}
 use Rattle.planner.proofs.requests.link.Tie as tie
-use Rattle.base.proofs.bytes.clear16.Reads as clear16-reads
 
 abbrev Inv-loop : tie.InvT-loop
 Inv-loop servers n previous₀ recent₀ i₀ previous recent i =
@@ -26,27 +24,22 @@ Inv-loop servers n previous₀ recent₀ i₀ previous recent i =
 abbrev μ-loop : tie.MeasureT-loop
 μ-loop servers n previous₀ recent₀ i₀ previous recent i = suc n - i
 
--- src/requests.rt:67:5
 loop-holds : tie.Need-loop-holds Inv-loop μ-loop
 unfolding links-front build
 loop-holds c = (search needs, recents-zero (at (c .before .args .servers .now)), refl, refl)
 
--- src/requests.rt:68:9
 link-one-requires : tie.Need-link-one-requires Inv-loop μ-loop
 link-one-requires c κs =
     let s = c .before .before .before .before .before in
     let l = c .before .before .before .loop in
     (search needs, s .pre .1 (l .i), l .inv .2 ∙ s .pre .2)
 
--- src/requests.rt:69:9
 add-i : tie.Need-add-i Inv-loop μ-loop
 add-i c = search needs
 
--- src/requests.rt:67:5
 loop-less : tie.Need-loop-less Inv-loop μ-loop
 loop-less c = search needs
 
--- src/requests.rt:67:5
 loop-again : tie.Need-loop-again Inv-loop μ-loop
 loop-again c =
     let s = c .before .before .before .before .before .before .before .before in
@@ -60,23 +53,18 @@ loop-again c =
       rw (x .ensures .1, l .inv .1, l .inv .3, add-one (l .i)) (links-next t (l .i) (a .previous .now) (omega arith) (s .pre .1 (l .i))),
     )
 
--- src/requests.rt:71:23
 size-requires : tie.Need-size-requires Inv-loop μ-loop
 size-requires c κs = search needs
 
--- src/requests.rt:71:23
 add-clear16 : tie.Need-add-clear16 Inv-loop μ-loop
 add-clear16 c = search needs
 
--- src/requests.rt:71:5
 clear16-requires : tie.Need-clear16-requires Inv-loop μ-loop
 clear16-requires c κs = search needs
 
--- src/requests.rt:61:1
 same-length : tie.Need-same-length Inv-loop μ-loop
 same-length c = search needs
 
--- src/requests.rt:61:1
 returns : tie.Need-returns Inv-loop μ-loop
 unfolding links-front links
 returns c =

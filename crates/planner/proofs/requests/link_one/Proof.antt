@@ -1,54 +1,43 @@
+-- `planner::requests::link_one` meets its contract. Assumes nothing.
 use borrow.Author.Needs.{needs}
 use Rattle.planner.proofs.requests.link_one.Statement.{statement}
 use Rattle.planner.proofs.requests.link_one.Tie as tie
 
--- src/requests.rt:54:9
 size-requires : tie.Need-size-requires
 size-requires c κs = search needs
 
--- src/requests.rt:55:18
 mul-size : tie.Need-mul-size
 mul-size c = search needs
 
--- src/requests.rt:55:18
 element-copy-out-size : tie.Need-element-copy-out-size
 element-copy-out-size c = search needs
 
--- src/requests.rt:55:9
 size-requires-2 : tie.Need-size-requires-2
 size-requires-2 c κs = search needs
 
--- src/requests.rt:56:19
 mul-previous : tie.Need-mul-previous
 mul-previous c = search needs
 
--- src/requests.rt:56:19
 element-copy-out-previous : tie.Need-element-copy-out-previous
 element-copy-out-previous c = rw (c .size2 .ensures .0, c .before .before .size .ensures .0) (c .before .before .before .before .pre .1)
 
--- src/requests.rt:56:5
 mul-previous-2 : tie.Need-mul-previous-2
 mul-previous-2 c = search needs
 
--- src/requests.rt:56:5
 slice-write-previous : tie.Need-slice-write-previous
 slice-write-previous c = search needs
 
--- src/requests.rt:57:5
 mul-recent : tie.Need-mul-recent
 mul-recent c = search needs
 
--- src/requests.rt:57:5
 element-write-recent : tie.Need-element-write-recent
 element-write-recent c =
     let p = c .before in
     rw (p .size2 .ensures .0, p .before .before .size .ensures .0) (p .before .before .before .before .pre .1)
 
--- src/requests.rt:49:1
 same-length : tie.Need-same-length
 same-length c = search needs
 
--- src/requests.rt:49:1
 returns : tie.Need-returns
 returns c =
     let p = c .before in

@@ -1,50 +1,37 @@
 -- `planner::requests::load` meets its contract. Assumes nothing.
 use borrow.Author.Needs.{needs}
-use mathlib.Core.List.{List}
-use mathlib.Core.Path.{_≡_, refl, sym, ap, ap₂, _∙_}
+use mathlib.Core.Path.{_≡_, refl, ap, _∙_}
 use native.Mathlib.Omega.{arith}
-use Prim.Native.Nat.{ℕ, _<_}
 use lib.ListN.{length}
 use Rattle.base.specs.declared.Verdict.{Verdict}
-use Rattle.base.specs.declared.Verdict.the-variants.{Passed, Refused}
 use Rattle.base.specs.Lent.{lent}
-use Rattle.log.specs.Fields.{home-of, class-of, server-count, request-count, seconds-of, servers-of, header-of}
+use Rattle.log.specs.Fields.{home-of, seconds-of, servers-of, header-of}
 use Rattle.log.specs.Conditions.{verdict-of, Accepted}
 use Rattle.log.specs.declared.Header.{Header}
-use Rattle.model.specs.TableLists.{at}
 use Rattle.model.specs.LogRequests.{prices-in}
-use Rattle.planner.specs.Loading.{seconds-with-home, servers-with-home, links, setup-of, loaded}
+use Rattle.planner.specs.Loading.{seconds-with-home, servers-with-home, setup-of, loaded}
 use Rattle.planner.specs.LoadedLaws.{decoded-requests, decoded-refused, home-loaded, home-kept, lent-small, links-loaded, log-fits}
-use Rattle.planner.specs.Fits.{Fits}
 use Rattle.planner.proofs.requests.load.Statement.{statement}
 use Rattle.planner.proofs.requests.load.Tie as tie
-use Rattle.prices.proofs.of_class.Reads as of-class-reads
 
--- src/requests.rt:91:9
 read-requests-requires : tie.Need-read-requests-requires
 read-requests-requires c κs = search needs
 
--- src/requests.rt:95:30
 enum-known-outcome : tie.Need-enum-known-outcome
 enum-known-outcome c = search needs
 
--- src/requests.rt:96:31
 enum-known-outcome-2 : tie.Need-enum-known-outcome-2
 enum-known-outcome-2 c = search needs
 
--- src/requests.rt:97:13
 element-write-seconds : tie.Need-element-write-seconds
 element-write-seconds c = search needs
 
--- src/requests.rt:98:26
 half-requires : tie.Need-half-requires
 half-requires c κs = search needs
 
--- src/requests.rt:98:13
 element-write-servers : tie.Need-element-write-servers
 element-write-servers c = search needs
 
--- src/requests.rt:99:13
 link-requires : tie.Need-link-requires
 unfolding header-of servers-with-home Accepted
 link-requires c κs =
@@ -57,11 +44,9 @@ link-requires c κs =
     let now = home-loaded (verdict-of log) (a .servers .now) (servers-of log) _ (home-of log) _ (d .0) (r .read-requests .ensures .1 .1) (c .before .before .half .ensures ∙ ap (λ (h : Header). h .home) (d .2)) (omega arith) in
     (omega (arith, d .1, log-fits log (d .0) .requests-most), lent-small log (d .0) (a .servers .now) _ now, search needs)
 
--- src/requests.rt:103:25
 of-class-requires : tie.Need-of-class-requires
 of-class-requires c κs = search needs
 
--- src/requests.rt:85:1
 returns : tie.Need-returns
 unfolding loaded lent
 returns c =
@@ -76,7 +61,6 @@ returns c =
       ),
     )
 
--- src/requests.rt:85:1
 returns-2 : tie.Need-returns-2
 unfolding header-of seconds-with-home servers-with-home loaded setup-of prices-in Accepted
 returns-2 c =

@@ -1,53 +1,40 @@
+-- `planner::requests::read_requests` meets its contract. Assumes nothing.
 use borrow.Author.Needs.{needs}
-use mathlib.Core.List.{List, _++_, append-nil}
-use mathlib.Core.Path.{_≡_, refl, sym, ap, _∙_}
-use native.Mathlib.Omega.{arith}
-use lib.ListN.{length, drop, length-drop}
+use mathlib.Core.Path.{ap, _∙_}
 use Rattle.base.specs.declared.Verdict.{Verdict}
 use Rattle.log.specs.Fields.{seconds-of, servers-of}
-use Rattle.planner.specs.LoadLaws.{read-long, behind-first, behind-length, behind-back}
-use Rattle.log.specs.Answers.{decoded, read-verdict}
+use Rattle.planner.specs.LoadLaws.{read-long, behind-length, behind-back}
+use Rattle.log.specs.Answers.{decoded}
 use Rattle.planner.proofs.requests.read_requests.Statement.{statement}
 use Rattle.planner.proofs.requests.read_requests.Tie as tie
-use Rattle.log.proofs.read.Reads as read-reads
 
--- src/requests.rt:81:15
 sub-read : tie.Need-sub-read
 sub-read c = search needs
 
--- src/requests.rt:81:15
 part-read-start : tie.Need-part-read-start
 part-read-start c = search needs
 
--- src/requests.rt:81:15
 part-read-end : tie.Need-part-read-end
 part-read-end c = search needs
 
--- src/requests.rt:81:34
 sub-read-2 : tie.Need-sub-read-2
 sub-read-2 c = search needs
 
--- src/requests.rt:81:34
 part-read-start-2 : tie.Need-part-read-start-2
 part-read-start-2 c = search needs
 
--- src/requests.rt:81:34
 part-read-end-2 : tie.Need-part-read-end-2
 part-read-end-2 c = search needs
 
--- src/requests.rt:81:5
 read-requires : tie.Need-read-requires
 read-requires c κs = search needs
 
--- src/requests.rt:75:1
 same-length : tie.Need-same-length
 same-length c = search needs
 
--- src/requests.rt:75:1
 same-length-2 : tie.Need-same-length-2
 same-length-2 c = search needs
 
--- src/requests.rt:75:1
 returns : tie.Need-returns
 returns c =
     let s = c .before .before .before .before .before .before .before .before .before .before in

@@ -1,8 +1,8 @@
 -- `planner::rows::put_server` meets its contract: when the loop stands at k, the holds that begin with gaps 1 to k are in place. Assumes nothing.
 use borrow.Author.Needs.{needs}
-use mathlib.Core.List.{List, [], _∷_, _++_}
-use mathlib.Core.Path.{_≡_, refl, sym, ap, _∙_}
-use Prim.Native.Nat.{ℕ, suc, _+_, _*_, _-_, _≤_}
+use mathlib.Core.List.{List, []}
+use mathlib.Core.Path.{_≡_, refl, ap, _∙_}
+use Prim.Native.Nat.{ℕ, _+_, _-_, _≤_}
 use native.Mathlib.Omega.{arith}
 use native.Mathlib.Numerals.{add-one}
 use lib.ListN.{length}
@@ -21,26 +21,21 @@ Inv-loop times words n y at out₀ next₀ k₀ out next k =
 abbrev μ-loop : tie.MeasureT-loop
 μ-loop times words n y at out₀ next₀ k₀ out next k = n - k
 
--- src/rows.rt:100:5
 loop-holds : tie.Need-loop-holds Inv-loop μ-loop
 unfolding hold-rows
 loop-holds c =
     let a = c .before .before .before .args in
     (search needs, search needs, refl, put-none (a .at) (a .out .now))
 
--- src/rows.rt:101:9
 put-hold-requires : tie.Need-put-hold-requires Inv-loop μ-loop
 put-hold-requires c κs = search needs
 
--- src/rows.rt:102:9
 add-k : tie.Need-add-k Inv-loop μ-loop
 add-k c = search needs
 
--- src/rows.rt:100:5
 loop-less : tie.Need-loop-less Inv-loop μ-loop
 loop-less c = search needs
 
--- src/rows.rt:100:5
 loop-again : tie.Need-loop-again Inv-loop μ-loop
 unfolding hold-rows new-hold
 loop-again c =
@@ -54,11 +49,9 @@ loop-again c =
     (l .inv .3) (p .put-hold .ensures .0) (p .put-hold .ensures .2) in
     (search needs, omega arith, ap length (h .1) ∙ put-rows-length (a .at) _ (a .out .now), rw (add-one (l .k)) h)
 
--- src/rows.rt:94:1
 same-length : tie.Need-same-length Inv-loop μ-loop
 same-length c = search needs
 
--- src/rows.rt:94:1
 returns : tie.Need-returns Inv-loop μ-loop
 returns c =
     let l = c .before .loop in

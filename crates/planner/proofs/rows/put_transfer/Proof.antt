@@ -1,10 +1,7 @@
 -- `planner::rows::put_transfer` meets its contract: no row, or the transfer's. Assumes nothing.
 use borrow.Author.Needs.{needs}
-use mathlib.Core.Bool.{true, false}
-use mathlib.Core.List.{List, [], _∷_}
-use mathlib.Core.Path.{_≡_, refl, sym, ap, _∙_}
-use Prim.Native.Nat.{ℕ, suc, _+_, _*_, _-_}
-use native.Mathlib.Omega.{arith}
+use mathlib.Core.Path.{sym, _∙_}
+use Prim.Native.Nat.{suc, _-_}
 use native.Mathlib.Numerals.{add-one}
 use Rattle.model.specs.Schedule.{move, transfer}
 use Rattle.model.specs.RowForm.{numbers}
@@ -16,11 +13,9 @@ use Rattle.planner.specs.RowSteps.{transfer-none, transfer-one}
 use Rattle.planner.proofs.rows.put_transfer.Statement.{statement}
 use Rattle.planner.proofs.rows.put_transfer.Tie as tie
 
--- src/rows.rt:126:8
 kept-requires : tie.Need-kept-requires
 kept-requires c κs = search needs
 
--- src/rows.rt:127:9
 returns : tie.Need-returns
 returns c =
     let a = c .before .before .before .before .before .before .before .args in
@@ -30,43 +25,33 @@ returns c =
     (transfer-none q m (word-source (a .words .now)) (a .k) (sym (c .before .kept .ensures) ∙ c .if1 .taken)) in
     (h .0, search needs, h .1)
 
--- src/rows.rt:129:13
 add-i : tie.Need-add-i
 add-i c = search needs
 
--- src/rows.rt:130:32
 word-requires : tie.Need-word-requires
 word-requires c κs = search needs
 
--- src/rows.rt:130:25
 source-requires : tie.Need-source-requires
 source-requires c κs = search needs
 
--- src/rows.rt:130:56
 server-requires : tie.Need-server-requires
 server-requires c κs = search needs
 
--- src/rows.rt:130:49
 number-requires : tie.Need-number-requires
 number-requires c κs = search needs
 
--- src/rows.rt:130:77
 second-requires : tie.Need-second-requires
 second-requires c κs = search needs
 
--- src/rows.rt:130:5
 put-row-requires : tie.Need-put-row-requires
 put-row-requires c κs = search needs
 
--- src/rows.rt:131:5
 add-result : tie.Need-add-result
 add-result c = search needs
 
--- src/rows.rt:122:1
 same-length : tie.Need-same-length
 same-length c = search needs
 
--- src/rows.rt:122:1
 returns-2 : tie.Need-returns-2
 unfolding numbers word-source
 returns-2 c =

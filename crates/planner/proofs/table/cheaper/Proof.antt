@@ -1,24 +1,21 @@
+-- `planner::table::cheaper` meets its contract. Assumes nothing.
 use borrow.Author.Needs.{needs}
 use borrow.Author.Tests.{eq-eqb, ne-eqb}
 use Rattle.planner.specs.Terms.{cheaper}
 use Rattle.planner.proofs.table.cheaper.Statement.{statement}
 use Rattle.planner.proofs.table.cheaper.Tie as tie
 
--- src/table.rt:87:9
 returns : tie.Need-returns
 unfolding cheaper
 returns c = rw (eq-eqb _ _ (c .if1 .taken))
 
--- src/table.rt:90:9
 least-requires : tie.Need-least-requires
 least-requires c κs = search needs
 
--- src/table.rt:90:9
 returns-2 : tie.Need-returns-2
 unfolding cheaper
 returns-2 c = rw (ne-eqb _ _ (c .before .before .if1 .left), c .before .if2 .taken) (c .least .ensures)
 
--- src/table.rt:83:1
 returns-3 : tie.Need-returns-3
 unfolding cheaper
 returns-3 c = rw (ne-eqb _ _ (c .before .if1 .left), c .if2 .left)

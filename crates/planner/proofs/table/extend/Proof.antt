@@ -1,35 +1,30 @@
+-- `planner::table::extend` meets its contract. Assumes nothing.
 use borrow.Author.Needs.{needs}
-use mathlib.Core.Path.{_≡_, refl, sym, ap, _∙_}
+use mathlib.Core.Path.{sym, ap}
 use native.Mathlib.Numerals.{add-one}
 use native.Mathlib.Omega.{arith}
 use Prim.Native.Nat.{suc}
 use lib.ListN.{set}
-use Rattle.model.specs.TableLists.{at}
 use Rattle.planner.specs.Asked.{asks}
-use Rattle.planner.specs.Fits.{fits-less, best-small}
+use Rattle.planner.specs.Fits.{best-small}
 use Rattle.planner.specs.TermLaws.{terms-small, cost-terms}
 use Rattle.planner.proofs.table.extend.Statement.{statement}
 use Rattle.planner.proofs.table.extend.Tie as tie
 
--- src/table.rt:158:9
 size-requires : tie.Need-size-requires
 size-requires c κs = search needs
 
--- src/table.rt:159:9
 terms-at-requires : tie.Need-terms-at-requires
 terms-at-requires c κs = search needs
 
--- src/table.rt:160:9
 next-keep-requires : tie.Need-next-keep-requires
 next-keep-requires c κs =
     let s = c .before .before .before .before .before .before in
     (s .pre .0, (s .pre .1 .0, (c .before .before .terms-at .ensures, search needs, search needs)))
 
--- src/table.rt:161:16
 wide-requires : tie.Need-wide-requires
 wide-requires c κs = search needs
 
--- src/table.rt:161:16
 add-sent : tie.Need-add-sent
 add-sent c =
     let s = c .before .before .before .before .before .before .before .before .before in
@@ -40,15 +35,12 @@ add-sent c =
       terms-small (a .prices) (asks (a .seconds .now) (a .servers .now)) (a .i) (omega arith) _ (c .before .before .before .before .before .terms-at .ensures) (s .pre .0 .fits),
     )
 
--- src/table.rt:161:48
 mul-sent : tie.Need-mul-sent
 mul-sent c = search needs
 
--- src/table.rt:161:48
 slice-read-sent : tie.Need-slice-read-sent
 slice-read-sent c = search needs
 
--- src/table.rt:161:16
 add-sent-2 : tie.Need-add-sent-2
 add-sent-2 c =
     let s = c .before .before .before .before .before .before .before .before .before .before in
@@ -63,43 +55,33 @@ add-sent-2 c =
       best-small (a .prices) q (suc (a .i)) (s .pre .0 .fits) (a .i) (a .i) (omega arith) (omega arith),
     ))
 
--- src/table.rt:162:20
 cheaper-requires : tie.Need-cheaper-requires
 cheaper-requires c κs = search needs
 
--- src/table.rt:162:11
 add-costs : tie.Need-add-costs
 add-costs c = search needs
 
--- src/table.rt:162:5
 mul-costs : tie.Need-mul-costs
 mul-costs c = search needs
 
--- src/table.rt:162:5
 slice-write-costs : tie.Need-slice-write-costs
 slice-write-costs c = search needs
 
--- src/table.rt:163:11
 add-keeps : tie.Need-add-keeps
 add-keeps c = search needs
 
--- src/table.rt:163:5
 mul-keeps : tie.Need-mul-keeps
 mul-keeps c = search needs
 
--- src/table.rt:163:5
 slice-write-keeps : tie.Need-slice-write-keeps
 slice-write-keeps c = search needs
 
--- src/table.rt:151:1
 same-length : tie.Need-same-length
 same-length c = search needs
 
--- src/table.rt:151:1
 same-length-2 : tie.Need-same-length-2
 same-length-2 c = search needs
 
--- src/table.rt:151:1
 returns : tie.Need-returns
 returns c =
     let s = c .before .before .before .before .before .before .before .before .before .before .before in

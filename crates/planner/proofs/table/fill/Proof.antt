@@ -1,3 +1,4 @@
+-- `planner::table::fill` meets its contract. Assumes nothing.
 use borrow.Author.Needs.{needs}
 use mathlib.Core.Path.{_≡_, refl, sym, ap, _∙_}
 use native.Mathlib.Numerals.{add-one}
@@ -24,22 +25,18 @@ Inv-loop prices seconds servers previous n costs₀ keeps₀ i₀ costs keeps i 
 abbrev μ-loop : tie.MeasureT-loop
 μ-loop prices seconds servers previous n costs₀ keeps₀ i₀ costs keeps i = n - i
 
--- src/table.rt:173:5
 slice-write-costs : tie.Need-slice-write-costs Inv-loop μ-loop
 slice-write-costs c = search needs
 
--- src/table.rt:174:5
 slice-write-keeps : tie.Need-slice-write-keeps Inv-loop μ-loop
 slice-write-keeps c = search needs
 
--- src/table.rt:176:5
 loop-holds : tie.Need-loop-holds Inv-loop μ-loop
 unfolding lists
 loop-holds c =
     let a = c .before .before .args in
     (search needs, refl, refl, set-first (a .costs .now) 0 (search needs), set-first (a .keeps .now) 0 (search needs))
 
--- src/table.rt:177:9
 extend-requires : tie.Need-extend-requires Inv-loop μ-loop
 extend-requires c κs =
     let s = c .before .before .before .before .before .before in
@@ -54,15 +51,12 @@ extend-requires c κs =
       ),
     )
 
--- src/table.rt:178:9
 add-i : tie.Need-add-i Inv-loop μ-loop
 add-i c = search needs
 
--- src/table.rt:176:5
 loop-less : tie.Need-loop-less Inv-loop μ-loop
 loop-less c = search needs
 
--- src/table.rt:176:5
 loop-again : tie.Need-loop-again Inv-loop μ-loop
 loop-again c =
     let s = c .before .before .before .before .before .before .before .before .before .before .before in
@@ -85,19 +79,16 @@ loop-again c =
           ∙ ap (λ (k : ℕ). keeps-front (a .prices) q k o₂) (sym (add-one (l .i))),
     )
 
--- src/table.rt:167:1
 same-length : tie.Need-same-length Inv-loop μ-loop
 same-length c =
     let a = c .before .before .before .before .args in
     c .before .loop .inv .1 ∙ length-set (a .costs .now) 0 0
 
--- src/table.rt:167:1
 same-length-2 : tie.Need-same-length-2 Inv-loop μ-loop
 same-length-2 c =
     let a = c .before .before .before .before .args in
     c .before .loop .inv .2 ∙ length-set (a .keeps .now) 0 0
 
--- src/table.rt:167:1
 returns : tie.Need-returns Inv-loop μ-loop
 returns c =
     let a = c .before .before .before .before .args in

@@ -1,26 +1,22 @@
+-- `planner::table::held` meets its contract. Assumes nothing.
 use borrow.Author.Needs.{needs}
 use native.Mathlib.Nat.{mul-le-mul}
 use native.Mathlib.Omega.{arith}
 use Rattle.planner.proofs.table.held.Statement.{statement}
 use Rattle.planner.proofs.table.held.Tie as tie
 
--- src/table.rt:42:5
 wide-requires : tie.Need-wide-requires
 wide-requires c κs = search needs
 
--- src/table.rt:42:23
 sub-wide : tie.Need-sub-wide
 sub-wide c = search needs
 
--- src/table.rt:42:18
 wide-requires-2 : tie.Need-wide-requires-2
 wide-requires-2 c κs = search needs
 
--- src/table.rt:42:5
 mul-result : tie.Need-mul-result
 mul-result c = omega (arith, mul-le-mul {n₁ = c .before .wide .result} {m₁ = c .wide2 .result} {n₂ = 4294967295} {m₂ = 4294967295} (omega arith) (omega arith))
 
--- src/table.rt:38:1
 returns : tie.Need-returns
 returns c = rw (c .wide2 .ensures .0, c .before .wide .ensures .0)
 

@@ -1,19 +1,17 @@
+-- `planner::table::kept_cost` meets its contract. Assumes nothing.
 use borrow.Author.Needs.{needs}
 use borrow.Author.Tests.{lt-ltb, le-ltb}
 use Rattle.planner.specs.Terms.{kept-cost}
 use Rattle.planner.proofs.table.kept_cost.Statement.{statement}
 use Rattle.planner.proofs.table.kept_cost.Tie as tie
 
--- src/table.rt:101:9
 returns : tie.Need-returns
 unfolding kept-cost
 returns c = rw (lt-ltb _ _ (c .if1 .taken))
 
--- src/table.rt:103:5
 add-result : tie.Need-add-result
 add-result c = search needs
 
--- src/table.rt:96:1
 returns-2 : tie.Need-returns-2
 unfolding kept-cost
 returns-2 c = rw (le-ltb _ _ (c .before .if1 .left))

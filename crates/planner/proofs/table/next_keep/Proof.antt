@@ -1,5 +1,6 @@
+-- `planner::table::next_keep` meets its contract. Assumes nothing.
 use borrow.Author.Needs.{needs}
-use mathlib.Core.Path.{_≡_, refl, sym, _∙_}
+use mathlib.Core.Path.{sym}
 use native.Mathlib.Omega.{arith}
 use Prim.Native.Nat.{suc}
 use Rattle.model.specs.TableLists.{at}
@@ -9,7 +10,6 @@ use Rattle.planner.specs.TermLaws.{keep-none, keep-some, from-below, ter
 use Rattle.planner.proofs.table.next_keep.Statement.{statement}
 use Rattle.planner.proofs.table.next_keep.Tie as tie
 
--- src/table.rt:145:9
 returns : tie.Need-returns
 returns c =
     let s = c .before .before .before .before in
@@ -17,7 +17,6 @@ returns c =
     let few = s .pre .0 .fits .requests-most in
     sym (keep-none (a .prices) (asks (a .seconds .now) (a .servers .now)) (a .i) (omega arith) (a .a) (s .pre .1 .1 .0) (at (a .costs .now)) (at (a .keeps .now)) (c .if1 .taken))
 
--- src/table.rt:147:14
 row-requires : tie.Need-row-requires
 row-requires c κs =
     let s = c .before .before .before .before in
@@ -34,7 +33,6 @@ row-requires c κs =
       ),
     )
 
--- src/table.rt:147:5
 add-result : tie.Need-add-result
 add-result c =
     let s = c .before .before .before .before .before .before in
@@ -49,7 +47,6 @@ add-result c =
       row-small (a .prices) q (a .i) (fits-less (a .prices) q (suc (a .i)) (s .pre .0 .fits) (a .i) (omega arith)) (at (a .costs .now)) (at (a .keeps .now)) (a .a .from) (a .i) (s .pre .1 .0) (from-below (a .prices) q (a .i) (omega arith) (a .a) (s .pre .1 .1 .0) left) (omega arith),
     )
 
--- src/table.rt:138:1
 returns-2 : tie.Need-returns-2
 returns-2 c =
     let s = c .before .before .before .before .before .before in

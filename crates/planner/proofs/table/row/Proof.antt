@@ -1,5 +1,6 @@
+-- `planner::table::row` meets its contract. Assumes nothing.
 use borrow.Author.Needs.{needs}
-use mathlib.Core.Path.{_≡_, refl, sym, _∙_}
+use mathlib.Core.Path.{_≡_, sym}
 use native.Mathlib.Numerals.{add-one}
 use native.Mathlib.Omega.{arith}
 use Prim.Native.Nat.{suc, _-_, _≤_}
@@ -16,19 +17,15 @@ Inv-loop prices seconds servers previous costs keeps c i first v₀ k₀ v k = (
 abbrev μ-loop : tie.MeasureT-loop
 μ-loop prices seconds servers previous costs keeps c i first v₀ k₀ v k = i - k
 
--- src/table.rt:125:9
 size-requires : tie.Need-size-requires Inv-loop μ-loop
 size-requires c κs = search needs
 
--- src/table.rt:126:17
 mul-v : tie.Need-mul-v Inv-loop μ-loop
 mul-v c = search needs
 
--- src/table.rt:126:17
 shared-slice-read-v : tie.Need-shared-slice-read-v Inv-loop μ-loop
 shared-slice-read-v c = search needs
 
--- src/table.rt:128:5
 loop-holds : tie.Need-loop-holds Inv-loop μ-loop
 loop-holds c =
     let a = c .before .before .before .before .args in (
@@ -37,7 +34,6 @@ loop-holds c =
       rw (c .before .size .ensures .0) (sym (row-start (a .prices) (asks (a .seconds .now) (a .servers .now)) (at (a .costs .now)) (at (a .keeps .now)) (a .c))),
     )
 
--- src/table.rt:129:9
 row-step-requires : tie.Need-row-step-requires Inv-loop μ-loop
 row-step-requires c κs =
     let s = c .before .before .before .before .before .before in
@@ -51,15 +47,12 @@ row-step-requires c κs =
       ),
     )
 
--- src/table.rt:130:9
 add-k : tie.Need-add-k Inv-loop μ-loop
 add-k c = search needs
 
--- src/table.rt:128:5
 loop-less : tie.Need-loop-less Inv-loop μ-loop
 loop-less c = search needs
 
--- src/table.rt:128:5
 loop-again : tie.Need-loop-again Inv-loop μ-loop
 loop-again c =
     let s = c .before .before .before .before .before .before .before in
@@ -71,7 +64,6 @@ loop-again c =
           (sym (row-next (a .prices) (asks (a .seconds .now) (a .servers .now)) (at (a .costs .now)) (at (a .keeps .now)) (a .c) (l .k) (search needs))),
     )
 
--- src/table.rt:119:1
 returns : tie.Need-returns Inv-loop μ-loop
 returns c =
     let a = c .before .before .before .before .before .before .args in

@@ -1,34 +1,28 @@
+-- `planner::table::row_step` meets its contract. Assumes nothing.
 use borrow.Author.Needs.{needs}
-use mathlib.Core.Path.{_≡_, refl, sym, _∙_}
+use mathlib.Core.Path.{sym}
 use native.Mathlib.Numerals.{add-one}
 use native.Mathlib.Omega.{arith}
-use Prim.Native.Nat.{suc}
 use Rattle.planner.specs.Asked.{asks}
 use Rattle.planner.specs.TermLaws.{terms-small, step-terms}
 use Rattle.planner.proofs.table.row_step.Statement.{statement}
 use Rattle.planner.proofs.table.row_step.Tie as tie
 
--- src/table.rt:112:9
 terms-at-requires : tie.Need-terms-at-requires
 terms-at-requires c κs = search needs
 
--- src/table.rt:113:9
 size-requires : tie.Need-size-requires
 size-requires c κs = search needs
 
--- src/table.rt:114:38
 add-kept-cost : tie.Need-add-kept-cost
 add-kept-cost c = search needs
 
--- src/table.rt:114:32
 mul-kept-cost : tie.Need-mul-kept-cost
 mul-kept-cost c = search needs
 
--- src/table.rt:114:32
 shared-slice-read-kept-cost : tie.Need-shared-slice-read-kept-cost
 shared-slice-read-kept-cost c = search needs
 
--- src/table.rt:114:9
 kept-cost-requires : tie.Need-kept-cost-requires
 kept-cost-requires c κs =
     let s = c .before .before .before .before in
@@ -37,19 +31,15 @@ kept-cost-requires c κs =
     let few = s .pre .0 .fits .requests-most in
     (terms-small (a .prices) q (a .k) (omega arith) _ (c .before .before .terms-at .ensures) (s .pre .0 .fits) .0, search needs)
 
--- src/table.rt:115:16
 wide-requires : tie.Need-wide-requires
 wide-requires c κs = search needs
 
--- src/table.rt:115:16
 add-cheaper : tie.Need-add-cheaper
 add-cheaper c = search needs
 
--- src/table.rt:115:5
 cheaper-requires : tie.Need-cheaper-requires
 cheaper-requires c κs = search needs
 
--- src/table.rt:107:1
 returns : tie.Need-returns
 returns c =
     let s = c .before .before .before .before .before .before .before in

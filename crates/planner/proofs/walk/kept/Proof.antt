@@ -1,3 +1,4 @@
+-- `planner::walk::kept` meets its contract. Assumes nothing.
 use borrow.Author.Tests.{lt-ltb, le-ltb, eq-eqb, ne-eqb}
 use Rattle.planner.specs.Terms.{kept-by}
 use Rattle.planner.proofs.walk.kept.Statement.{statement}

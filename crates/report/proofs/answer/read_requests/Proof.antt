@@ -1,3 +1,4 @@
+-- `report::answer::read_requests` meets its contract. Assumes nothing.
 use borrow.Author.Needs.{needs}
 use Rattle.report.specs.SheetLaws.{read-passes}
 use Rattle.log.specs.Answers.{read-verdict}
@@ -6,23 +7,16 @@ use mathlib.Core.Path.{_≡_}
 use lib.ListN.{length}
 use Rattle.report.proofs.answer.read_requests.Statement.{statement}
 use Rattle.report.proofs.answer.read_requests.Tie as tie
-use Rattle.report.proofs.answer.read_requests.Reads as reads
-use Rattle.report.proofs.answer.read_requests.Lts as lts
-use Rattle.log.proofs.read.Reads as read-reads
 
--- src/answer.rt:73:5
 read-requires : tie.Need-read-requires
 read-requires c κs = search needs
 
--- src/answer.rt:67:1
 same-length : tie.Need-same-length
 same-length c = search needs
 
--- src/answer.rt:67:1
 same-length-2 : tie.Need-same-length-2
 same-length-2 c = search needs
 
--- src/answer.rt:67:1
 returns : tie.Need-returns
 returns c =
     let s = c .before .before .before .before .before .before .before .before .before .before in

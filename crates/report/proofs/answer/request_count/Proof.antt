@@ -1,31 +1,24 @@
+-- `report::answer::request_count` meets its contract. Assumes nothing.
 use borrow.Author.Needs.{needs}
 use mathlib.Core.Path.{refl}
 use Rattle.report.specs.Sheet.{requests-read}
 use Rattle.report.proofs.answer.request_count.Statement.{statement}
 use Rattle.report.proofs.answer.request_count.Tie as tie
-use Rattle.report.proofs.answer.request_count.Reads as reads
-use Rattle.report.proofs.answer.request_count.Lts as lts
-use Rattle.report.proofs.widths.size.Reads as size-reads
 
--- src/answer.rt:51:31
 enum-known-outcome : tie.Need-enum-known-outcome
 enum-known-outcome c = search needs
 
--- src/answer.rt:51:37
 size-requires : tie.Need-size-requires
 size-requires c κs = search needs
 
--- src/answer.rt:52:36
 enum-told : tie.Need-enum-told
 enum-told c = search needs
 
--- src/answer.rt:47:1
 returns : tie.Need-returns
 unfolding requests-read
 returns c =
     rw (c .before .before .outcome .given .1) (c .size .ensures)
 
--- src/answer.rt:47:1
 returns-2 : tie.Need-returns-2
 unfolding requests-read
 returns-2 c =

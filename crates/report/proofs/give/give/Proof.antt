@@ -1,44 +1,33 @@
+-- `report::give::give` meets its contract. Assumes nothing.
 use borrow.Author.Needs.{needs}
 use Rattle.report.specs.AnswerLaws.{room-passed, room-refused, given-front}
 use lib.ListN.{length}
 use Rattle.report.specs.Answers.{printed}
 use Rattle.base.specs.Lent.{lent}
-use mathlib.Core.Path.{_≡_, refl, sym, ap, _∙_}
+use mathlib.Core.Path.{refl, _∙_}
 use Rattle.report.proofs.give.give.Statement.{statement}
 use Rattle.report.proofs.give.give.Tie as tie
-use Rattle.report.proofs.give.give.Reads as reads
-use Rattle.report.proofs.give.give.Lts as lts
-use Rattle.base.proofs.bytes.clear8.Reads as clear8-reads
-use Rattle.base.proofs.bytes.copy.Reads as copy-reads
-use Rattle.report.proofs.widths.from_size.Reads as from-size-reads
 
--- src/give.rt:24:62
 from-size-requires : tie.Need-from-size-requires
 from-size-requires c κs = search needs
 
--- src/give.rt:24:9
 returns : tie.Need-returns
 unfolding printed lent
 returns c = let a = c .before .before .before .before .args in
     rw (room-refused (a .from .now) (length (a .text .now)) (c .before .if1 .taken), c .from-size .ensures) (refl, refl)
 
--- src/give.rt:26:5
 copy-requires : tie.Need-copy-requires
 copy-requires c κs = search needs
 
--- src/give.rt:27:5
 clear8-requires : tie.Need-clear8-requires
 clear8-requires c κs = search needs
 
--- src/give.rt:28:21
 from-size-requires-2 : tie.Need-from-size-requires-2
 from-size-requires-2 c κs = search needs
 
--- src/give.rt:18:1
 same-length : tie.Need-same-length
 same-length c = search needs
 
--- src/give.rt:18:1
 returns-2 : tie.Need-returns-2
 unfolding printed
 returns-2 c = let a = c .before .before .before .before .before .before .before .before .before .before .before .before .args in

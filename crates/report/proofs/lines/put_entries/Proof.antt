@@ -1,18 +1,15 @@
+-- `report::lines::put_entries` meets its contract. Assumes nothing.
 use borrow.Author.Needs.{needs}
 use Rattle.report.specs.TextLaws.{lines-next, lines-longer}
-use Rattle.report.specs.Text.{entry-line, entry-lines, columns, entry-of}
+use Rattle.report.specs.Text.{entry-lines, columns, entry-of}
 use Rattle.report.specs.Page.{page, added}
 use lib.ListN.{length}
 use native.Mathlib.Omega.{arith}
 use native.Mathlib.Numerals.{add-one}
 use Prim.Native.Nat.{_*_, _-_, _≤_}
-use mathlib.Core.Path.{_≡_, refl, sym, ap, _∙_}
+use mathlib.Core.Path.{_≡_, refl, _∙_}
 use Rattle.report.proofs.lines.put_entries.Statement.{statement}
 use Rattle.report.proofs.lines.put_entries.Tie as tie
-use Rattle.report.proofs.lines.put_entries.Reads as reads
-use Rattle.report.proofs.lines.put_entries.Lts as lts
-use Rattle.report.proofs.lines.entry_at.Reads as entry-at-reads
-use Rattle.report.proofs.lines.put_entry.Reads as put-entry-reads
 
 abbrev Inv-loop : tie.InvT-loop
 Inv-loop text₀ at seconds servers plan live least costs n to₀ i₀ text to i =
@@ -24,28 +21,22 @@ Inv-loop text₀ at seconds servers plan live least costs n to₀ i₀ text to i
 abbrev μ-loop : tie.MeasureT-loop
 μ-loop text₀ at seconds servers plan live least costs n to₀ i₀ text to i = n - i
 
--- src/lines.rt:87:5
 loop-holds : tie.Need-loop-holds Inv-loop μ-loop
 unfolding entry-lines added
 loop-holds c = (search needs, refl, refl, search needs)
 
--- src/lines.rt:88:13
 entry-at-requires : tie.Need-entry-at-requires Inv-loop μ-loop
 entry-at-requires c κs = search needs
 
--- src/lines.rt:89:9
 put-entry-requires : tie.Need-put-entry-requires Inv-loop μ-loop
 put-entry-requires c κs = search needs
 
--- src/lines.rt:90:9
 add-i : tie.Need-add-i Inv-loop μ-loop
 add-i c = search needs
 
--- src/lines.rt:87:5
 loop-less : tie.Need-loop-less Inv-loop μ-loop
 loop-less c = search needs
 
--- src/lines.rt:87:5
 loop-again : tie.Need-loop-again Inv-loop μ-loop
 loop-again c = let p = c .before .before in
     let l = p .before .before .before .before .loop in
@@ -59,11 +50,9 @@ loop-again c = let p = c .before .before in
       lines-longer e (l .i) (l .inv .3) (rw f at (p .put-entry .ensures .1)),
     )
 
--- src/lines.rt:80:1
 same-length : tie.Need-same-length Inv-loop μ-loop
 same-length c = search needs
 
--- src/lines.rt:80:1
 returns : tie.Need-returns Inv-loop μ-loop
 returns c = let l = c .before .loop in
     let e : l .i ≡ c .before .before .before .before .before .before .before .before .before .args .n = omega arith in

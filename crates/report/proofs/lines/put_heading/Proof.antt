@@ -1,24 +1,18 @@
+-- `report::lines::put_heading` meets its contract. Assumes nothing.
 use borrow.Author.Needs.{needs}
 use Rattle.report.specs.Text.{ascii, heading}
 use Rattle.report.proofs.lines.put_heading.Statement.{statement}
 use Rattle.report.proofs.lines.put_heading.Tie as tie
-use Rattle.report.proofs.lines.put_heading.Reads as reads
-use Rattle.report.proofs.lines.put_heading.Lts as lts
-use Rattle.report.proofs.put.put.Reads as put-reads
 
--- src/lines.rt:18:19
 slice-aggregate-put : tie.Need-slice-aggregate-put
 slice-aggregate-put c = search needs
 
--- src/lines.rt:18:5
 put-requires : tie.Need-put-requires
 put-requires c κs = search needs
 
--- src/lines.rt:15:1
 same-length : tie.Need-same-length
 same-length c = search needs
 
--- src/lines.rt:15:1
 returns : tie.Need-returns
 unfolding heading ascii
 returns c = c .before .before .put .ensures

@@ -1,37 +1,27 @@
+-- `report::lines::put_last` meets its contract. Assumes nothing.
 use borrow.Author.Needs.{needs}
 use Rattle.report.specs.Text.{ascii, line, line-end, last-line}
 use Rattle.report.specs.PageLaws.{added-append}
-use Rattle.report.specs.Page.{page, added}
-use mathlib.Core.Path.{_≡_, refl, sym, ap, _∙_}
+use Rattle.report.specs.Page.{added}
+use mathlib.Core.Path.{_∙_}
 use Rattle.report.proofs.lines.put_last.Statement.{statement}
 use Rattle.report.proofs.lines.put_last.Tie as tie
-use Rattle.report.proofs.lines.put_last.Reads as reads
-use Rattle.report.proofs.lines.put_last.Lts as lts
-use Rattle.report.proofs.put.put.Reads as put-reads
-use Rattle.report.proofs.put.put_byte.Reads as put-byte-reads
-use Rattle.report.proofs.put.put_field.Reads as put-field-reads
 
--- src/lines.rt:39:27
 slice-aggregate-put : tie.Need-slice-aggregate-put
 slice-aggregate-put c = search needs
 
--- src/lines.rt:39:9
 put-requires : tie.Need-put-requires
 put-requires c κs = search needs
 
--- src/lines.rt:40:9
 put-field-requires : tie.Need-put-field-requires
 put-field-requires c κs = search needs
 
--- src/lines.rt:41:5
 put-byte-requires : tie.Need-put-byte-requires
 put-byte-requires c κs = search needs
 
--- src/lines.rt:36:1
 same-length : tie.Need-same-length
 same-length c = search needs
 
--- src/lines.rt:36:1
 returns : tie.Need-returns
 unfolding last-line line line-end ascii added
 returns c = c .before .before .put-byte .ensures

@@ -1,3 +1,4 @@
+-- `report::lines::put_lines` meets its contract. Assumes nothing.
 use borrow.Author.Needs.{needs}
 use Rattle.report.specs.TextLaws.{sheet-parts, sheet-length}
 use Rattle.report.specs.Text.{columns, entry-of, sheet-text}
@@ -7,29 +8,19 @@ use native.Mathlib.Omega.{arith}
 use mathlib.Core.Path.{_≡_, _∙_}
 use Rattle.report.proofs.lines.put_lines.Statement.{statement}
 use Rattle.report.proofs.lines.put_lines.Tie as tie
-use Rattle.report.proofs.lines.put_lines.Reads as reads
-use Rattle.report.proofs.lines.put_lines.Lts as lts
-use Rattle.report.proofs.lines.put_entries.Reads as put-entries-reads
-use Rattle.report.proofs.lines.put_heading.Reads as put-heading-reads
-use Rattle.report.proofs.lines.put_last.Reads as put-last-reads
 
--- src/lines.rt:100:9
 put-heading-requires : tie.Need-put-heading-requires
 put-heading-requires c κs = search needs
 
--- src/lines.rt:101:9
 put-entries-requires : tie.Need-put-entries-requires
 put-entries-requires c κs = search needs
 
--- src/lines.rt:102:5
 put-last-requires : tie.Need-put-last-requires
 put-last-requires c κs = search needs
 
--- src/lines.rt:96:1
 same-length : tie.Need-same-length
 same-length c = search needs
 
--- src/lines.rt:96:1
 returns : tie.Need-returns
 returns c =
     let a = c .before .before .before .before .before .before .before .before .before .before .before .before .before .before .before .before .before .before .before .args in

@@ -1,24 +1,19 @@
+-- `report::live::amount` meets its contract. Assumes nothing.
 use borrow.Author.Needs.{needs}
 use Rattle.report.specs.Live.{outcome-cost}
 use Rattle.report.proofs.live.amount.Statement.{statement}
 use Rattle.report.proofs.live.amount.Tie as tie
-use Rattle.report.proofs.live.amount.Reads as reads
-use Rattle.report.proofs.live.amount.Lts as lts
 
--- src/live.rt:42:28
 enum-known-outcome : tie.Need-enum-known-outcome
 enum-known-outcome c = search needs
 
--- src/live.rt:43:37
 enum-told : tie.Need-enum-told
 enum-told c = search needs
 
--- src/live.rt:38:1
 returns : tie.Need-returns
 unfolding outcome-cost
 returns c = rw (c .before .outcome .given .1)
 
--- src/live.rt:38:1
 returns-2 : tie.Need-returns-2
 unfolding outcome-cost
 returns-2 c = rw (c .enum-told .given .1)

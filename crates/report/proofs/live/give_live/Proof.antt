@@ -1,38 +1,28 @@
+-- `report::live::give_live` meets its contract. Assumes nothing.
 use borrow.Author.Needs.{needs}
 use Rattle.report.specs.Live.{live-mark, live-cost}
 use Rattle.base.specs.LentLaws.{lent-front}
 use Rattle.base.specs.Lists.{build, build-length}
 use native.Mathlib.Omega.{arith}
-use mathlib.Core.Path.{_≡_, _∙_}
+use mathlib.Core.Path.{_∙_}
 use Rattle.report.proofs.live.give_live.Statement.{statement}
 use Rattle.report.proofs.live.give_live.Tie as tie
-use Rattle.report.proofs.live.give_live.Reads as reads
-use Rattle.report.proofs.live.give_live.Lts as lts
-use Rattle.base.proofs.bytes.clear64.Reads as clear64-reads
-use Rattle.base.proofs.bytes.clear8.Reads as clear8-reads
-use Rattle.report.proofs.live.replay.Reads as replay-reads
 
--- src/live.rt:94:5
 replay-requires : tie.Need-replay-requires
 replay-requires c κs = search needs
 
--- src/live.rt:95:5
 clear8-requires : tie.Need-clear8-requires
 clear8-requires c κs = search needs
 
--- src/live.rt:96:5
 clear64-requires : tie.Need-clear64-requires
 clear64-requires c κs = search needs
 
--- src/live.rt:89:1
 same-length : tie.Need-same-length
 same-length c = search needs
 
--- src/live.rt:89:1
 same-length-2 : tie.Need-same-length-2
 same-length-2 c = search needs
 
--- src/live.rt:89:1
 returns : tie.Need-returns
 returns c =
     let a = c .before .before .before .before .before .before .before .before .before .before .before .before .before .before .before .before .before .before .before .args in

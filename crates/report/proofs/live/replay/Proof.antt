@@ -1,3 +1,4 @@
+-- `report::live::replay` meets its contract. Assumes nothing.
 use borrow.Author.Needs.{needs}
 use Rattle.report.specs.LiveLaws.{Runs, turn-next}
 use Rattle.report.specs.Live.{scans, state-after, live-mark, live-cost}
@@ -9,12 +10,9 @@ use native.Mathlib.Omega.{arith}
 use native.Mathlib.Numerals.{add-one}
 use Prim.Native.Nat.{_-_, _≤_}
 use mathlib.Core.List.{_++_}
-use mathlib.Core.Path.{_≡_, refl, sym, ap, _∙_}
+use mathlib.Core.Path.{_≡_, refl, _∙_}
 use Rattle.report.proofs.live.replay.Statement.{statement}
 use Rattle.report.proofs.live.replay.Tie as tie
-use Rattle.report.proofs.live.replay.Reads as reads
-use Rattle.report.proofs.live.replay.Lts as lts
-use Rattle.report.proofs.live.step.Reads as step-reads
 
 abbrev Inv-loop : tie.InvT-loop
 Inv-loop seconds servers n marks₀ costs₀ state₀ i₀ marks costs state i =
@@ -28,52 +26,40 @@ Inv-loop seconds servers n marks₀ costs₀ state₀ i₀ marks costs state i =
 abbrev μ-loop : tie.MeasureT-loop
 μ-loop seconds servers n marks₀ costs₀ state₀ i₀ marks costs state i = n - i
 
--- src/live.rt:79:5
 loop-holds : tie.Need-loop-holds Inv-loop μ-loop
 unfolding state-after scans build run
 loop-holds c = (search needs, refl, refl, refl, refl, refl)
 
--- src/live.rt:80:29
 mul-step : tie.Need-mul-step Inv-loop μ-loop
 mul-step c = search needs
 
--- src/live.rt:80:29
 shared-slice-read-step : tie.Need-shared-slice-read-step Inv-loop μ-loop
 shared-slice-read-step c = search needs
 
--- src/live.rt:80:41
 mul-step-2 : tie.Need-mul-step-2 Inv-loop μ-loop
 mul-step-2 c = search needs
 
--- src/live.rt:80:41
 shared-slice-read-step-2 : tie.Need-shared-slice-read-step-2 Inv-loop μ-loop
 shared-slice-read-step-2 c = search needs
 
--- src/live.rt:80:13
 step-requires : tie.Need-step-requires Inv-loop μ-loop
 step-requires c κs = search needs
 
--- src/live.rt:81:9
 slice-write-marks : tie.Need-slice-write-marks Inv-loop μ-loop
 slice-write-marks c = search needs
 
--- src/live.rt:82:9
 mul-costs : tie.Need-mul-costs Inv-loop μ-loop
 mul-costs c = search needs
 
--- src/live.rt:82:9
 slice-write-costs : tie.Need-slice-write-costs Inv-loop μ-loop
 slice-write-costs c = search needs
 
--- src/live.rt:84:9
 add-i : tie.Need-add-i Inv-loop μ-loop
 add-i c = search needs
 
--- src/live.rt:79:5
 loop-less : tie.Need-loop-less Inv-loop μ-loop
 loop-less c = search needs
 
--- src/live.rt:79:5
 loop-again : tie.Need-loop-again Inv-loop μ-loop
 unfolding Runs
 loop-again c =
@@ -91,15 +77,12 @@ loop-again c =
       rw (add-one (l .i), l .inv .5, e) (fill-next (live-cost (a .cache) x y) (l .i) (a .costs .now) (omega arith)),
     )
 
--- src/live.rt:72:1
 same-length : tie.Need-same-length Inv-loop μ-loop
 same-length c = search needs
 
--- src/live.rt:72:1
 same-length-2 : tie.Need-same-length-2 Inv-loop μ-loop
 same-length-2 c = search needs
 
--- src/live.rt:72:1
 returns : tie.Need-returns Inv-loop μ-loop
 returns c =
     let l = c .before .loop in

@@ -1,5 +1,6 @@
+-- `report::put::put` meets its contract. Assumes nothing.
 use borrow.Author.Needs.{needs}
-use mathlib.Core.Path.{_≡_, refl, sym, ap, _∙_}
+use mathlib.Core.Path.{_≡_, refl, _∙_}
 use Prim.Native.Nat.{_-_, _≤_}
 use native.Mathlib.Numerals.{add-one}
 use native.Mathlib.Omega.{arith}
@@ -9,9 +10,6 @@ use Rattle.report.specs.Page.{page, added}
 use Rattle.report.specs.PageLaws.{added-next}
 use Rattle.report.proofs.put.put.Statement.{statement}
 use Rattle.report.proofs.put.put.Tie as tie
-use Rattle.report.proofs.put.put.Reads as reads
-use Rattle.report.proofs.put.put.Lts as lts
-use Rattle.report.proofs.put.put_byte.Reads as put-byte-reads
 
 abbrev Inv-loop : tie.InvT-loop
 Inv-loop text₀ at from to₀ i₀ text to i = (i ≤ length from) × (length text ≡ length text₀) × (page to text ≡ added (take i from) (page at text₀))
@@ -19,28 +17,22 @@ Inv-loop text₀ at from to₀ i₀ text to i = (i ≤ length from) × (length t
 abbrev μ-loop : tie.MeasureT-loop
 μ-loop text₀ at from to₀ i₀ text to i = length from - i
 
--- src/put.rt:25:5
 loop-holds : tie.Need-loop-holds Inv-loop μ-loop
 unfolding added
 loop-holds c = (search needs, refl, refl)
 
--- src/put.rt:26:33
 shared-slice-read-put-byte : tie.Need-shared-slice-read-put-byte Inv-loop μ-loop
 shared-slice-read-put-byte c = search needs
 
--- src/put.rt:26:9
 put-byte-requires : tie.Need-put-byte-requires Inv-loop μ-loop
 put-byte-requires c κs = search needs
 
--- src/put.rt:27:9
 add-i : tie.Need-add-i Inv-loop μ-loop
 add-i c = search needs
 
--- src/put.rt:25:5
 loop-less : tie.Need-loop-less Inv-loop μ-loop
 loop-less c = search needs
 
--- src/put.rt:25:5
 loop-again : tie.Need-loop-again Inv-loop μ-loop
 loop-again c =
     let p = c .before .before in
@@ -52,11 +44,9 @@ loop-again c =
           ∙ rw (l .inv .2, add-one (l .i)) (added-next (a .from .now) (l .i) (page (a .at) (a .text .now)) (omega arith)),
     )
 
--- src/put.rt:20:1
 same-length : tie.Need-same-length Inv-loop μ-loop
 same-length c = search needs
 
--- src/put.rt:20:1
 returns : tie.Need-returns Inv-loop μ-loop
 returns c =
     let l = c .before .loop in

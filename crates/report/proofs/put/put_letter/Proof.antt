@@ -1,26 +1,20 @@
+-- `report::put::put_letter` meets its contract. Assumes nothing.
 use borrow.Author.Needs.{needs}
 use Rattle.report.specs.Text.{ascii}
-use Rattle.report.specs.Page.{page, added}
-use mathlib.Core.Path.{_≡_, refl, sym, ap, _∙_}
+use Rattle.report.specs.Page.{added}
+use mathlib.Core.Path.{_∙_}
 use Rattle.report.proofs.put.put_letter.Statement.{statement}
 use Rattle.report.proofs.put.put_letter.Tie as tie
-use Rattle.report.proofs.put.put_letter.Reads as reads
-use Rattle.report.proofs.put.put_letter.Lts as lts
-use Rattle.report.proofs.put.put_byte.Reads as put-byte-reads
 
--- src/put.rt:64:9
 put-byte-requires : tie.Need-put-byte-requires
 put-byte-requires c κs = search needs
 
--- src/put.rt:65:5
 put-byte-requires-2 : tie.Need-put-byte-requires-2
 put-byte-requires-2 c κs = search needs
 
--- src/put.rt:61:1
 same-length : tie.Need-same-length
 same-length c = search needs
 
--- src/put.rt:61:1
 returns : tie.Need-returns
 unfolding added ascii
 returns c = c .before .before .put-byte2 .ensures ∙ rw (c .before .before .before .before .before .before .put-byte .ensures)

@@ -1,63 +1,45 @@
+-- `report::refusal::put_refusal` meets its contract. Assumes nothing.
 use borrow.Author.Needs.{needs}
 use Rattle.report.specs.AnswerLaws.{front-of}
 use Rattle.report.specs.TextLaws.{refusal-length}
 use native.Mathlib.Omega.{arith}
 use Rattle.report.specs.TextLaws.{refusal-parts}
-use Rattle.report.specs.Text.{ascii, line, line-end, refusal-text}
-use Rattle.report.specs.PageLaws.{added-append}
+use Rattle.report.specs.Text.{ascii, refusal-text}
 use Rattle.report.specs.Page.{page, added}
-use mathlib.Core.Path.{_≡_, refl, sym, ap, _∙_}
+use mathlib.Core.Path.{_≡_, _∙_}
 use Rattle.report.proofs.refusal.put_refusal.Statement.{statement}
 use Rattle.report.proofs.refusal.put_refusal.Tie as tie
-use Rattle.report.proofs.refusal.put_refusal.Reads as reads
-use Rattle.report.proofs.refusal.put_refusal.Lts as lts
-use Rattle.report.proofs.put.put.Reads as put-reads
-use Rattle.report.proofs.put.put_byte.Reads as put-byte-reads
-use Rattle.report.proofs.put.put_field.Reads as put-field-reads
-use Rattle.report.proofs.refusal.put_list.Reads as put-list-reads
-use Rattle.report.proofs.widths.from8.Reads as from8-reads
 
--- src/refusal.rt:36:26
 slice-aggregate-put : tie.Need-slice-aggregate-put
 slice-aggregate-put c = search needs
 
--- src/refusal.rt:36:9
 put-requires : tie.Need-put-requires
 put-requires c κs = search needs
 
--- src/refusal.rt:37:9
 put-list-requires : tie.Need-put-list-requires
 put-list-requires c κs = search needs
 
--- src/refusal.rt:38:32
 from8-requires : tie.Need-from8-requires
 from8-requires c κs = search needs
 
--- src/refusal.rt:38:9
 put-field-requires : tie.Need-put-field-requires
 put-field-requires c κs = search needs
 
--- src/refusal.rt:39:26
 slice-aggregate-put-2 : tie.Need-slice-aggregate-put-2
 slice-aggregate-put-2 c = search needs
 
--- src/refusal.rt:39:9
 put-requires-2 : tie.Need-put-requires-2
 put-requires-2 c κs = search needs
 
--- src/refusal.rt:40:9
 put-field-requires-2 : tie.Need-put-field-requires-2
 put-field-requires-2 c κs = search needs
 
--- src/refusal.rt:41:5
 put-byte-requires : tie.Need-put-byte-requires
 put-byte-requires c κs = search needs
 
--- src/refusal.rt:33:1
 same-length : tie.Need-same-length
 same-length c = search needs
 
--- src/refusal.rt:33:1
 returns : tie.Need-returns
 unfolding ascii added
 returns c =

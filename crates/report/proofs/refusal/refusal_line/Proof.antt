@@ -1,38 +1,28 @@
+-- `report::refusal::refusal_line` meets its contract. Assumes nothing.
 use borrow.Author.Needs.{needs}
 use mathlib.Core.Path.{sym}
 use lib.Seq.{length-take-le}
 use Rattle.report.proofs.refusal.refusal_line.Statement.{statement}
 use Rattle.report.proofs.refusal.refusal_line.Tie as tie
-use Rattle.report.proofs.refusal.refusal_line.Reads as reads
-use Rattle.report.proofs.refusal.refusal_line.Lts as lts
-use Rattle.report.proofs.give.give.Reads as give-reads
-use Rattle.report.proofs.refusal.put_refusal.Reads as put-refusal-reads
 
--- src/refusal.rt:50:34
 slice-aggregate-put-refusal : tie.Need-slice-aggregate-put-refusal
 slice-aggregate-put-refusal c = search needs
 
--- src/refusal.rt:50:9
 put-refusal-requires : tie.Need-put-refusal-requires
 put-refusal-requires c κs = search needs
 
--- src/refusal.rt:51:10
 array-share-prefix-line : tie.Need-array-share-prefix-line
 array-share-prefix-line c = c .before .put-refusal .ensures .0
 
--- src/refusal.rt:51:10
 slice-aggregate-give : tie.Need-slice-aggregate-give
 slice-aggregate-give c = sym (length-take-le _ _ (c .before .before .put-refusal .ensures .0))
 
--- src/refusal.rt:51:5
 give-requires : tie.Need-give-requires
 give-requires c κs = search needs
 
--- src/refusal.rt:45:1
 same-length : tie.Need-same-length
 same-length c = search needs
 
--- src/refusal.rt:45:1
 returns : tie.Need-returns
 returns c = rw (← c .before .before .before .before .before .before .put-refusal .ensures .1) (c .before .before .give .ensures)
 

@@ -1,3 +1,4 @@
+-- `vectors::brute::cost` meets its contract. Assumes nothing.
 use borrow.Author.Needs.{needs}
 use Prim.Native.Nat.{_≤_, _-_}
 use Rattle.vectors.proofs.brute.cost.Statement.{statement}
@@ -9,39 +10,30 @@ Inv-loop prices seconds servers n marks sum₀ k₀ sum k = k ≤ 7
 abbrev μ-loop : tie.MeasureT-loop
 μ-loop prices seconds servers n marks sum₀ k₀ sum k = 7 - k
 
--- src/brute.rt:121:5
 loop-holds : tie.Need-loop-holds Inv-loop μ-loop
 loop-holds c = search needs
 
--- src/brute.rt:123:41
 own-requires : tie.Need-own-requires Inv-loop μ-loop
 own-requires c κs = search needs
 
--- src/brute.rt:123:13
 wrapping-add-u64-requires : tie.Need-wrapping-add-u64-requires Inv-loop μ-loop
 wrapping-add-u64-requires c κs = search needs
 
--- src/brute.rt:124:41
 alone-requires : tie.Need-alone-requires Inv-loop μ-loop
 alone-requires c κs = search needs
 
--- src/brute.rt:124:13
 wrapping-add-u64-requires-2 : tie.Need-wrapping-add-u64-requires-2 Inv-loop μ-loop
 wrapping-add-u64-requires-2 c κs = search needs
 
--- src/brute.rt:121:9
 add-k : tie.Need-add-k Inv-loop μ-loop
 add-k c = search needs
 
--- src/brute.rt:121:5
 loop-less : tie.Need-loop-less Inv-loop μ-loop
 loop-less c = search needs
 
--- src/brute.rt:121:5
 loop-again : tie.Need-loop-again Inv-loop μ-loop
 loop-again c = search needs
 
--- src/brute.rt:119:1
 returns : tie.Need-returns Inv-loop μ-loop
 returns c = search needs
 

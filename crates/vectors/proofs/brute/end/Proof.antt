@@ -1,3 +1,4 @@
+-- `vectors::brute::end` meets its contract. Assumes nothing.
 use borrow.Author.Needs.{needs}
 use Prim.Native.Nat.{_≤_, _-_}
 use Rattle.vectors.proofs.brute.end.Statement.{statement}
@@ -9,43 +10,33 @@ Inv-loop servers n marks y k last₀ i₀ last i = i ≤ 7
 abbrev μ-loop : tie.MeasureT-loop
 μ-loop servers n marks y k last₀ i₀ last i = 7 - i
 
--- src/brute.rt:191:5
 loop-holds : tie.Need-loop-holds Inv-loop μ-loop
 loop-holds c = search needs
 
--- src/brute.rt:193:16
 add-if2 : tie.Need-add-if2 Inv-loop μ-loop
 add-if2 c = search needs
 
--- src/brute.rt:194:48
 add-holds : tie.Need-add-holds Inv-loop μ-loop
 add-holds c = search needs
 
--- src/brute.rt:194:20
 holds-requires : tie.Need-holds-requires Inv-loop μ-loop
 holds-requires c κs = search needs
 
--- src/brute.rt:195:28
 add-last : tie.Need-add-last Inv-loop μ-loop
 add-last c = search needs
 
--- src/brute.rt:191:9
 add-i : tie.Need-add-i Inv-loop μ-loop
 add-i c = search needs
 
--- src/brute.rt:191:5
 loop-less : tie.Need-loop-less Inv-loop μ-loop
 loop-less c = search needs
 
--- src/brute.rt:191:5
 loop-again : tie.Need-loop-again Inv-loop μ-loop
 loop-again c = search needs
 
--- src/brute.rt:200:5
 after-requires : tie.Need-after-requires Inv-loop μ-loop
 after-requires c κs = search needs
 
--- src/brute.rt:189:1
 returns : tie.Need-returns Inv-loop μ-loop
 returns c = search needs
 

@@ -1,27 +1,23 @@
+-- `vectors::brute::held` meets its contract. Assumes nothing.
 use borrow.Author.Needs.{needs}
 use native.Mathlib.Nat.{mul-le-mul}
 use native.Mathlib.Omega.{arith}
 use Rattle.vectors.proofs.brute.held.Statement.{statement}
 use Rattle.vectors.proofs.brute.held.Tie as tie
 
--- src/brute.rt:87:5
 wide-requires : tie.Need-wide-requires
 wide-requires c κs = search needs
 
--- src/brute.rt:87:30
 since-requires : tie.Need-since-requires
 since-requires c κs = search needs
 
--- src/brute.rt:87:25
 wide-requires-2 : tie.Need-wide-requires-2
 wide-requires-2 c κs = search needs
 
--- src/brute.rt:87:5
 mul-result : tie.Need-mul-result
 mul-result c =
     omega (arith, mul-le-mul {n₁ = c .before .before .wide .result} {m₁ = c .wide2 .result} {n₂ = 4294967295} {m₂ = 4294967295} (omega arith) (omega arith))
 
--- src/brute.rt:86:1
 returns : tie.Need-returns
 returns c = search needs
 

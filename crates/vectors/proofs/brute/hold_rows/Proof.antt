@@ -1,3 +1,4 @@
+-- `vectors::brute::hold_rows` meets its contract. Assumes nothing.
 use borrow.Author.Needs.{needs}
 use Prim.Native.Nat.{_≤_, _-_}
 use Rattle.vectors.proofs.brute.hold_rows.Statement.{statement}
@@ -9,27 +10,21 @@ Inv-loop seconds servers n marks y rows₀ at next₀ k₀ rows next k = k ≤ 7
 abbrev μ-loop : tie.MeasureT-loop
 μ-loop seconds servers n marks y rows₀ at next₀ k₀ rows next k = 7 - k
 
--- src/brute.rt:237:5
 loop-holds : tie.Need-loop-holds Inv-loop μ-loop
 loop-holds c = search needs
 
--- src/brute.rt:239:13
 hold-row-requires : tie.Need-hold-row-requires Inv-loop μ-loop
 hold-row-requires c κs = search needs
 
--- src/brute.rt:237:9
 add-k : tie.Need-add-k Inv-loop μ-loop
 add-k c = search needs
 
--- src/brute.rt:237:5
 loop-less : tie.Need-loop-less Inv-loop μ-loop
 loop-less c = search needs
 
--- src/brute.rt:237:5
 loop-again : tie.Need-loop-again Inv-loop μ-loop
 loop-again c = search needs
 
--- src/brute.rt:227:1
 returns : tie.Need-returns Inv-loop μ-loop
 returns c = search needs
 

@@ -1,3 +1,4 @@
+-- `vectors::brute::put_rows` meets its contract. Assumes nothing.
 use borrow.Author.Needs.{needs}
 use Prim.Native.Nat.{_≤_, _-_}
 use Rattle.vectors.proofs.brute.put_rows.Statement.{statement}
@@ -9,31 +10,24 @@ Inv-loop seconds servers n marks rows₀ at₀ y₀ rows at y = y ≤ 4
 abbrev μ-loop : tie.MeasureT-loop
 μ-loop seconds servers n marks rows₀ at₀ y₀ rows at y = 4 - y
 
--- src/brute.rt:315:5
 loop-holds : tie.Need-loop-holds Inv-loop μ-loop
 loop-holds c = search needs
 
--- src/brute.rt:316:9
 hold-rows-requires : tie.Need-hold-rows-requires Inv-loop μ-loop
 hold-rows-requires c κs = search needs
 
--- src/brute.rt:317:9
 add-y : tie.Need-add-y Inv-loop μ-loop
 add-y c = search needs
 
--- src/brute.rt:315:5
 loop-less : tie.Need-loop-less Inv-loop μ-loop
 loop-less c = search needs
 
--- src/brute.rt:315:5
 loop-again : tie.Need-loop-again Inv-loop μ-loop
 loop-again c = search needs
 
--- src/brute.rt:319:5
 transfer-rows-requires : tie.Need-transfer-rows-requires Inv-loop μ-loop
 transfer-rows-requires c κs = search needs
 
--- src/brute.rt:306:1
 returns : tie.Need-returns Inv-loop μ-loop
 returns c = search needs
 

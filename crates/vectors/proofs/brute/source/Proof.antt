@@ -1,3 +1,4 @@
+-- `vectors::brute::source` meets its contract. Assumes nothing.
 use borrow.Author.Needs.{needs}
 use Prim.Native.Nat.{_≤_, _-_}
 use Rattle.vectors.proofs.brute.source.Statement.{statement}
@@ -9,31 +10,24 @@ Inv-loop servers n marks k y₀ y = y ≤ 4
 abbrev μ-loop : tie.MeasureT-loop
 μ-loop servers n marks k y₀ y = 4 - y
 
--- src/brute.rt:256:5
 loop-holds : tie.Need-loop-holds Inv-loop μ-loop
 loop-holds c = search needs
 
--- src/brute.rt:257:12
 holds-requires : tie.Need-holds-requires Inv-loop μ-loop
 holds-requires c κs = search needs
 
--- src/brute.rt:258:13
 returns : tie.Need-returns Inv-loop μ-loop
 returns c = search needs
 
--- src/brute.rt:260:9
 add-y : tie.Need-add-y Inv-loop μ-loop
 add-y c = search needs
 
--- src/brute.rt:256:5
 loop-less : tie.Need-loop-less Inv-loop μ-loop
 loop-less c = search needs
 
--- src/brute.rt:256:5
 loop-again : tie.Need-loop-again Inv-loop μ-loop
 loop-again c = search needs
 
--- src/brute.rt:254:1
 returns-2 : tie.Need-returns-2 Inv-loop μ-loop
 returns-2 c = search needs
 

@@ -1,3 +1,4 @@
+-- `vectors::draw::draw` meets its contract. Assumes nothing.
 use borrow.Author.Needs.{needs}
 use Prim.Native.Nat.{_≤_, _-_}
 use Rattle.vectors.proofs.draw.draw.Statement.{statement}
@@ -9,67 +10,51 @@ Inv-loop x apart count seconds₀ servers₀ y₀ t₀ i₀ seconds servers y t 
 abbrev μ-loop : tie.MeasureT-loop
 μ-loop x apart count seconds₀ servers₀ y₀ t₀ i₀ seconds servers y t i = 8 - i
 
--- src/draw.rt:30:5
 loop-holds : tie.Need-loop-holds Inv-loop μ-loop
 loop-holds c = search needs
 
--- src/draw.rt:31:29
 below-requires : tie.Need-below-requires Inv-loop μ-loop
 below-requires c κs = search needs
 
--- src/draw.rt:31:22
 narrow-requires : tie.Need-narrow-requires Inv-loop μ-loop
 narrow-requires c κs = search needs
 
--- src/draw.rt:31:9
 mul-servers : tie.Need-mul-servers Inv-loop μ-loop
 mul-servers c = search needs
 
--- src/draw.rt:31:9
 element-write-servers : tie.Need-element-write-servers Inv-loop μ-loop
 element-write-servers c = search needs
 
--- src/draw.rt:32:9
 mul-seconds : tie.Need-mul-seconds Inv-loop μ-loop
 mul-seconds c = search needs
 
--- src/draw.rt:32:9
 element-write-seconds : tie.Need-element-write-seconds Inv-loop μ-loop
 element-write-seconds c = search needs
 
--- src/draw.rt:33:9
 drawn-requires : tie.Need-drawn-requires Inv-loop μ-loop
 drawn-requires c κs = search needs
 
--- src/draw.rt:34:53
 below-requires-2 : tie.Need-below-requires-2 Inv-loop μ-loop
 below-requires-2 c κs = search needs
 
--- src/draw.rt:34:33
 wrapping-add-u32-requires : tie.Need-wrapping-add-u32-requires Inv-loop μ-loop
 wrapping-add-u32-requires c κs = search needs
 
--- src/draw.rt:34:9
 wrapping-add-u32-requires-2 : tie.Need-wrapping-add-u32-requires-2 Inv-loop μ-loop
 wrapping-add-u32-requires-2 c κs = search needs
 
--- src/draw.rt:35:9
 drawn-requires-2 : tie.Need-drawn-requires-2 Inv-loop μ-loop
 drawn-requires-2 c κs = search needs
 
--- src/draw.rt:30:9
 add-i : tie.Need-add-i Inv-loop μ-loop
 add-i c = search needs
 
--- src/draw.rt:30:5
 loop-less : tie.Need-loop-less Inv-loop μ-loop
 loop-less c = search needs
 
--- src/draw.rt:30:5
 loop-again : tie.Need-loop-again Inv-loop μ-loop
 loop-again c = search needs
 
--- src/draw.rt:27:1
 returns : tie.Need-returns Inv-loop μ-loop
 returns c = search needs
 

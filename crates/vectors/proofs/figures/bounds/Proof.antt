@@ -1,3 +1,4 @@
+-- `vectors::figures::bounds` meets its contract. Assumes nothing.
 use borrow.Author.Needs.{needs}
 use Prim.Native.Nat.{_≤_, _-_}
 use Rattle.vectors.proofs.figures.bounds.Statement.{statement}
@@ -9,31 +10,24 @@ Inv-loop prices i sum₀ k₀ sum k = k ≤ 7
 abbrev μ-loop : tie.MeasureT-loop
 μ-loop prices i sum₀ k₀ sum k = 7 - k
 
--- src/figures.rt:41:5
 loop-holds : tie.Need-loop-holds Inv-loop μ-loop
 loop-holds c = search needs
 
--- src/figures.rt:43:41
 bound-requires : tie.Need-bound-requires Inv-loop μ-loop
 bound-requires c κs = search needs
 
--- src/figures.rt:43:13
 wrapping-add-u64-requires : tie.Need-wrapping-add-u64-requires Inv-loop μ-loop
 wrapping-add-u64-requires c κs = search needs
 
--- src/figures.rt:41:9
 add-k : tie.Need-add-k Inv-loop μ-loop
 add-k c = search needs
 
--- src/figures.rt:41:5
 loop-less : tie.Need-loop-less Inv-loop μ-loop
 loop-less c = search needs
 
--- src/figures.rt:41:5
 loop-again : tie.Need-loop-again Inv-loop μ-loop
 loop-again c = search needs
 
--- src/figures.rt:39:1
 returns : tie.Need-returns Inv-loop μ-loop
 returns c = search needs
 

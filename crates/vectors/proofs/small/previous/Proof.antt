@@ -1,3 +1,4 @@
+-- `vectors::small::previous` meets its contract. Assumes nothing.
 use borrow.Author.Needs.{needs}
 use Prim.Native.Nat.{_≤_, _-_}
 use Rattle.vectors.proofs.small.previous.Statement.{statement}
@@ -9,27 +10,21 @@ Inv-loop servers i found₀ j₀ found j = j ≤ 8
 abbrev μ-loop : tie.MeasureT-loop
 μ-loop servers i found₀ j₀ found j = 8 - j
 
--- src/small.rt:45:5
 loop-holds : tie.Need-loop-holds Inv-loop μ-loop
 loop-holds c = search needs
 
--- src/small.rt:46:12
 same-before-requires : tie.Need-same-before-requires Inv-loop μ-loop
 same-before-requires c κs = search needs
 
--- src/small.rt:45:9
 add-j : tie.Need-add-j Inv-loop μ-loop
 add-j c = search needs
 
--- src/small.rt:45:5
 loop-less : tie.Need-loop-less Inv-loop μ-loop
 loop-less c = search needs
 
--- src/small.rt:45:5
 loop-again : tie.Need-loop-again Inv-loop μ-loop
 loop-again c = search needs
 
--- src/small.rt:43:1
 returns : tie.Need-returns Inv-loop μ-loop
 returns c = search needs
 

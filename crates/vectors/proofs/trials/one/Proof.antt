@@ -1,22 +1,19 @@
+-- `vectors::trials::one` meets its contract. Assumes nothing.
 use borrow.Author.Needs.{needs}
 use mathlib.Core.Path.{sym}
 use lib.Seq.{length-take-le}
 use Rattle.vectors.proofs.trials.one.Statement.{statement}
 use Rattle.vectors.proofs.trials.one.Tie as tie
 
--- src/trials.rt:194:9
 returns : tie.Need-returns
 returns c = search needs
 
--- src/trials.rt:196:26
 slice-aggregate-plan-agrees : tie.Need-slice-aggregate-plan-agrees
 slice-aggregate-plan-agrees c = sym (length-take-le _ _ (search needs))
 
--- src/trials.rt:196:5
 plan-agrees-requires : tie.Need-plan-agrees-requires
 plan-agrees-requires c κs = search needs
 
--- src/trials.rt:191:1
 returns-2 : tie.Need-returns-2
 returns-2 c = search needs
 

@@ -1,24 +1,20 @@
+-- `vectors::trials::prefixes_agree` meets its contract. Assumes nothing.
 use borrow.Author.Needs.{needs}
 use Rattle.vectors.proofs.trials.prefixes_agree.Statement.{statement}
 use Rattle.vectors.proofs.trials.prefixes_agree.Tie as tie
 
--- src/trials.rt:140:22
 slice-aggregate-least-given : tie.Need-slice-aggregate-least-given
 slice-aggregate-least-given c = search needs
 
--- src/trials.rt:140:5
 least-given-requires : tie.Need-least-given-requires
 least-given-requires c κs = search needs
 
--- src/trials.rt:142:9
 of-class-requires : tie.Need-of-class-requires
 of-class-requires c κs = search needs
 
--- src/trials.rt:141:5
 same-prefixes-requires : tie.Need-same-prefixes-requires
 same-prefixes-requires c κs = search needs
 
--- src/trials.rt:138:1
 returns : tie.Need-returns
 returns c = search needs
 

@@ -1,3 +1,4 @@
+-- `vectors::trials::same_marks` meets its contract. Assumes nothing.
 use borrow.Author.Needs.{needs}
 use Prim.Native.Nat.{_≤_, _-_}
 use Rattle.vectors.proofs.trials.same_marks.Statement.{statement}
@@ -9,31 +10,24 @@ Inv-loop letters marks n k₀ k = k ≤ 8
 abbrev μ-loop : tie.MeasureT-loop
 μ-loop letters marks n k₀ k = 8 - k
 
--- src/trials.rt:82:5
 loop-holds : tie.Need-loop-holds Inv-loop μ-loop
 loop-holds c = search needs
 
--- src/trials.rt:83:13
 same-mark-requires : tie.Need-same-mark-requires Inv-loop μ-loop
 same-mark-requires c κs = search needs
 
--- src/trials.rt:84:13
 returns : tie.Need-returns Inv-loop μ-loop
 returns c = search needs
 
--- src/trials.rt:82:9
 add-k : tie.Need-add-k Inv-loop μ-loop
 add-k c = search needs
 
--- src/trials.rt:82:5
 loop-less : tie.Need-loop-less Inv-loop μ-loop
 loop-less c = search needs
 
--- src/trials.rt:82:5
 loop-again : tie.Need-loop-again Inv-loop μ-loop
 loop-again c = search needs
 
--- src/trials.rt:81:1
 returns-2 : tie.Need-returns-2 Inv-loop μ-loop
 returns-2 c = search needs
 

@@ -1,3 +1,4 @@
+-- `vectors::trials::show` meets its contract. Assumes nothing.
 use borrow.Author.Needs.{needs}
 use Prim.Native.Nat.{_≤_, _-_}
 use Rattle.vectors.proofs.trials.show.Statement.{statement}
@@ -9,43 +10,33 @@ Inv-loop t₀ x₀ i₀ t x i = i ≤ 512
 abbrev μ-loop : tie.MeasureT-loop
 μ-loop t₀ x₀ i₀ t x i = 512 - i
 
--- src/trials.rt:263:5
 loop-holds : tie.Need-loop-holds Inv-loop μ-loop
 loop-holds c = search needs
 
--- src/trials.rt:264:9
 drawn-requires : tie.Need-drawn-requires Inv-loop μ-loop
 drawn-requires c κs = search needs
 
--- src/trials.rt:265:30
 below-requires : tie.Need-below-requires Inv-loop μ-loop
 below-requires c κs = search needs
 
--- src/trials.rt:265:25
 byte-requires : tie.Need-byte-requires Inv-loop μ-loop
 byte-requires c κs = search needs
 
--- src/trials.rt:265:9
 trial-requires : tie.Need-trial-requires Inv-loop μ-loop
 trial-requires c κs = search needs
 
--- src/trials.rt:266:9
 add-i : tie.Need-add-i Inv-loop μ-loop
 add-i c = search needs
 
--- src/trials.rt:263:5
 loop-less : tie.Need-loop-less Inv-loop μ-loop
 loop-less c = search needs
 
--- src/trials.rt:263:5
 loop-again : tie.Need-loop-again Inv-loop μ-loop
 loop-again c = search needs
 
--- src/trials.rt:268:5
 say-tally-requires : tie.Need-say-tally-requires Inv-loop μ-loop
 say-tally-requires c κs = search needs
 
--- src/trials.rt:252:1
 returns : tie.Need-returns Inv-loop μ-loop
 returns c = search needs
 

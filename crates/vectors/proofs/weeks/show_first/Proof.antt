@@ -1,30 +1,25 @@
+-- `vectors::weeks::show_first` meets its contract. Assumes nothing.
 use borrow.Author.Needs.{needs}
 use mathlib.Core.Path.{sym}
 use lib.Seq.{length-take-le}
 use Rattle.vectors.proofs.weeks.show_first.Statement.{statement}
 use Rattle.vectors.proofs.weeks.show_first.Tie as tie
 
--- src/weeks.rt:94:9
 returns : tie.Need-returns
 returns c = search needs
 
--- src/weeks.rt:97:9
 returns-2 : tie.Need-returns-2
 returns-2 c = search needs
 
--- src/weeks.rt:99:46
 slice-aggregate-show-requests : tie.Need-slice-aggregate-show-requests
 slice-aggregate-show-requests c = sym (length-take-le _ _ (search needs))
 
--- src/weeks.rt:99:61
 slice-aggregate-show-requests-2 : tie.Need-slice-aggregate-show-requests-2
 slice-aggregate-show-requests-2 c = sym (length-take-le _ _ (search needs))
 
--- src/weeks.rt:99:5
 show-requests-requires : tie.Need-show-requests-requires
 show-requests-requires c κs = search needs
 
--- src/weeks.rt:92:1
 returns-3 : tie.Need-returns-3
 returns-3 c = search needs
 

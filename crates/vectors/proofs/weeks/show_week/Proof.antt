@@ -1,20 +1,17 @@
+-- `vectors::weeks::show_week` meets its contract. Assumes nothing.
 use borrow.Author.Needs.{needs}
 use Rattle.vectors.proofs.weeks.show_week.Statement.{statement}
 use Rattle.vectors.proofs.weeks.show_week.Tie as tie
 
--- src/weeks.rt:125:5
 fill-requires : tie.Need-fill-requires
 fill-requires c κs = search needs
 
--- src/weeks.rt:126:5
 say-week-requires : tie.Need-say-week-requires
 say-week-requires c κs = search needs
 
--- src/weeks.rt:127:5
 show-filled-requires : tie.Need-show-filled-requires
 show-filled-requires c κs = search needs
 
--- src/weeks.rt:122:1
 returns : tie.Need-returns
 returns c = search needs
 
