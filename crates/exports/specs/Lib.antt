@@ -1,0 +1,2 @@
+-- What the exported calls answer in numbers.
+pub mod Answers

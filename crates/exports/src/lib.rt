@@ -1,0 +1,48 @@
+// What programs in other languages link: each public call on numbers, slices and `#[repr(C)]` structs. None requires anything.
+// A slice crosses as a pointer and then a length, each an argument of its own.
+mod caches;
+mod logs;
+mod schedules;
+
+ghost use mathlib.Core.Path.{_≡_};
+ghost use Rattle.exports.specs.Answers.{accepted, refused};
+use base::Refusal;
+
+// An answer in numbers: number 0 and up to two values, or a refusal's number and place.
+#[repr(C)]
+pub struct Answer {
+    pub number: u32,
+    pub place: u64,
+    pub value: u64,
+    pub more: u64,
+}
+
+// An accepted call's answer.
+pub fn accepted(value: u64, more: u64) -> Answer
+    ensures { λ r. ⌜ r ≡ accepted value more ⌝ }
+{
+    Answer {
+        number: 0,
+        place: 0,
+        value,
+        more,
+    }
+}
+
+fn word(x: u8) -> u32
+    ensures { λ r. ⌜ r ≡ x ⌝ }
+{
+    x as u32
+}
+
+// A refused call's answer.
+pub fn refused(refusal: Refusal) -> Answer
+    ensures { λ r. ⌜ r ≡ refused refusal ⌝ }
+{
+    Answer {
+        number: word(refusal.number),
+        place: refusal.place,
+        value: 0,
+        more: 0,
+    }
+}

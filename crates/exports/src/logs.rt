@@ -1,0 +1,104 @@
+// Sum, reader and writer.
+ghost use mathlib.Core.Path.{_≡_};
+ghost use lib.ListN.{length};
+ghost use Rattle.base.specs.Lent.{lent};
+ghost use Rattle.log.specs.Sum.{sum-of};
+ghost use Rattle.log.specs.Fields.{seconds-of, servers-of};
+ghost use Rattle.log.specs.Contents.{contents, encode};
+ghost use Rattle.log.specs.Answers.{read-verdict, decoded, write-verdict, written};
+ghost use Rattle.exports.specs.Answers.{of-read, of-write, read-answer, header-of};
+use crate::Answer;
+use crate::accepted;
+use crate::refused;
+use log::Header;
+use log::ReadOutcome;
+use log::Written;
+
+// What a log says of its file.
+#[repr(C)]
+pub struct FileHeader {
+    pub class: u8,
+    pub server_count: u8,
+    pub home: u8,
+    pub id: [u8; 16],
+}
+
+// The reader's answer: its value is the number of requests.
+#[repr(C)]
+pub struct ReadAnswer {
+    pub header: FileHeader,
+    pub answer: Answer,
+}
+
+#[no_mangle]
+pub extern "C" fn caching_sum(log: &[u8]) -> u32
+    ensures { λ r. ⌜ r ≡ sum-of (now (log .entry)) ⌝ }
+{
+    log::sum(log)
+}
+
+fn long(x: u16) -> u64
+    ensures { λ r. ⌜ r ≡ x ⌝ }
+{
+    x as u64
+}
+
+fn of_read(outcome: ReadOutcome) -> Answer
+    ensures { λ r. ⌜ r ≡ of-read outcome ⌝ }
+{
+    match outcome {
+        ReadOutcome::Requests(n) => accepted(long(n), 0),
+        ReadOutcome::Refused(r) => refused(r),
+    }
+}
+
+#[no_mangle]
+pub extern "C" fn caching_read(log: &[u8], seconds: &mut [u32], servers: &mut [u16]) -> ReadAnswer
+    ensures { λ r. ⌜ r ≡ read-answer (decoded (read-verdict (now (log .entry)) (length (now (seconds .entry))) (length (now (servers .entry)))) (now (log .entry))) ⌝ }
+    ensures { λ _. ⌜ now (seconds .exit) ≡ lent (read-verdict (now (log .entry)) (length (now (seconds .entry))) (length (now (servers .entry)))) (seconds-of (now (log .entry))) (now (seconds .entry)) ⌝ }
+    ensures { λ _. ⌜ now (servers .exit) ≡ lent (read-verdict (now (log .entry)) (length (now (seconds .entry))) (length (now (servers .entry)))) (servers-of (now (log .entry))) (now (servers .entry)) ⌝ }
+{
+    let d = log::read(log, seconds, servers);
+    let h = d.header;
+    let id = h.id;
+    let outcome = d.outcome;
+    ReadAnswer {
+        header: FileHeader {
+            class: h.class,
+            server_count: h.server_count,
+            home: h.home,
+            id,
+        },
+        answer: of_read(outcome),
+    }
+}
+
+fn of_write(outcome: Written) -> Answer
+    ensures { λ r. ⌜ r ≡ of-write outcome ⌝ }
+{
+    match outcome {
+        Written::Length(n) => accepted(n, 0),
+        Written::Refused(r) => refused(r),
+    }
+}
+
+// The answer's value is the log's length.
+#[no_mangle]
+pub extern "C" fn caching_write(
+    header: FileHeader,
+    seconds: &[u32],
+    servers: &[u16],
+    log: &mut [u8],
+) -> Answer
+    ensures { λ r. ⌜ r ≡ of-write (written (write-verdict (contents (header-of header) (now (seconds .entry)) (now (servers .entry))) (length (now (log .entry)))) (contents (header-of header) (now (seconds .entry)) (now (servers .entry)))) ⌝ }
+    ensures { λ _. ⌜ now (log .exit) ≡ lent (write-verdict (contents (header-of header) (now (seconds .entry)) (now (servers .entry))) (length (now (log .entry)))) (encode (contents (header-of header) (now (seconds .entry)) (now (servers .entry)))) (now (log .entry)) ⌝ }
+{
+    let id = header.id;
+    let h = Header {
+        class: header.class,
+        server_count: header.server_count,
+        home: header.home,
+        id,
+    };
+    of_write(log::write(h, seconds, servers, log))
+}

@@ -1,0 +1,469 @@
+//! The proved library beside the fast Rust version, in one run: `cargo bench` prints Markdown.
+//!
+//! Both are built for release and given the same inputs. Outputs are just as long as needed, so neither clears anything beyond
+//! its answer. A time is processor time of this thread, so that it counts little who else is at work. It is the least of several
+//! batches, the two versions taking turns, in several processes, as where a process has its stack can matter.
+
+#[path = "../tests/library/mod.rs"]
+mod library;
+
+use library::Library;
+use reference::calls::Calls;
+use reference::fast::{self, Fast};
+use reference::log::{Header, Log, Request};
+use reference::online::Cache;
+use reference::random::{random_requests, Random};
+use std::hint::black_box;
+
+const REQUESTS: [usize; 4] = [0, 64, 512, 2_048];
+const SERVERS: [u8; 3] = [1, 8, 64];
+const CALLS: [&str; 9] = ["plan", "least", "check", "read", "write", "scan", "scan in place", "sum", "sum by bytes"];
+const ROWS: [u32; 3] = [4_096, 100_000, 1_000_000];
+const PROCESSES: usize = 6;
+const ROUNDS: usize = 2;
+const BATCHES: usize = 4;
+const BATCH: f64 = 0.001;
+
+#[repr(C)]
+struct Timespec {
+    seconds: i64,
+    nanoseconds: i64,
+}
+
+extern "C" {
+    fn clock_gettime(clock: i32, time: *mut Timespec) -> i32;
+}
+
+/// The processor time of this thread, in seconds, by Linux on 64 bits.
+fn now() -> f64 {
+    const THREAD: i32 = 3;
+    let mut time = Timespec { seconds: 0, nanoseconds: 0 };
+    assert_eq!(unsafe { clock_gettime(THREAD, &mut time) }, 0);
+    time.seconds as f64 + time.nanoseconds as f64 * 1e-9
+}
+
+/// Seconds for one call, from one batch of them.
+fn batch(times: u32, call: &mut dyn FnMut()) -> f64 {
+    let start = now();
+    for _ in 0..times {
+        call();
+    }
+    (now() - start) / times as f64
+}
+
+/// How many calls fill a batch.
+fn many(call: &mut dyn FnMut()) -> u32 {
+    let mut times = 1;
+    while times < 1 << 20 && batch(times, call) * (times as f64) < BATCH {
+        times *= 2;
+    }
+    times
+}
+
+/// The least seconds of a call, for the library and for Rust.
+fn times(library: &mut dyn FnMut(), rust: &mut dyn FnMut()) -> Times {
+    let (many_library, many_rust) = (many(library), many(rust));
+    let mut least = Times::NONE;
+    for _ in 0..BATCHES {
+        let library = batch(many_library, library);
+        // what takes long is less in need of repeating
+        let again = library < 0.1;
+        least = least.min(Times { library, rust: batch(many_rust, rust) });
+        if !again {
+            break;
+        }
+    }
+    least
+}
+
+#[derive(Clone, Copy)]
+struct Times {
+    library: f64,
+    rust: f64,
+}
+
+impl Times {
+    const NONE: Times = Times { library: f64::MAX, rust: f64::MAX };
+
+    fn min(self, other: Times) -> Times {
+        Times { library: self.library.min(other.library), rust: self.rust.min(other.rust) }
+    }
+
+    fn ratio(self) -> f64 {
+        self.library / self.rust
+    }
+}
+
+/// A line of a table: what was measured, the least times, and the ratio's range over the processes.
+struct Line {
+    name: String,
+    servers: u32,
+    size: u32,
+    least: Times,
+    low: f64,
+    high: f64,
+}
+
+impl Line {
+    fn new(name: &str, servers: u32, size: u32, least: Times) -> Line {
+        let ratio = least.ratio();
+        Line { name: name.to_string(), servers, size, least, low: ratio, high: ratio }
+    }
+
+    /// For the process that gathers.
+    fn raw(&self) -> String {
+        format!("{}|{}|{}|{:e}|{:e}", self.name, self.servers, self.size, self.least.library, self.least.rust)
+    }
+
+    fn parsed(raw: &str) -> Line {
+        let parts: Vec<&str> = raw.split('|').collect();
+        let least = Times { library: parts[3].parse().unwrap(), rust: parts[4].parse().unwrap() };
+        Line::new(parts[0], parts[1].parse().unwrap(), parts[2].parse().unwrap(), least)
+    }
+
+    fn join(&mut self, other: &Line) {
+        assert_eq!((&self.name, self.servers, self.size), (&other.name, other.servers, other.size));
+        self.least = self.least.min(other.least);
+        self.low = self.low.min(other.low);
+        self.high = self.high.max(other.high);
+    }
+
+    /// Both times, how each has grown from those of a smaller input, the ratio and its range, as columns.
+    fn columns(&self, before: Option<&Line>) -> String {
+        let grown = |now: f64, then: Option<f64>| then.map_or(String::new(), |then| format!("× {:.1}", now / then));
+        format!(
+            "{} | {} | {} | {} | {:.2} | {:.2} to {:.2}",
+            show(self.least.library),
+            grown(self.least.library, before.map(|line| line.least.library)),
+            show(self.least.rust),
+            grown(self.least.rust, before.map(|line| line.least.rust)),
+            self.least.ratio(),
+            self.low,
+            self.high
+        )
+    }
+}
+
+fn show(seconds: f64) -> String {
+    match seconds {
+        s if s < 1e-6 => format!("{:.0} ns", s * 1e9),
+        s if s < 1e-3 => format!("{:.1} µs", s * 1e6),
+        s if s < 1.0 => format!("{:.2} ms", s * 1e3),
+        s => format!("{s:.2} s"),
+    }
+}
+
+/// Keeps a result from being left out.
+fn used<T>(result: T) {
+    let _ = black_box(result);
+}
+
+/// One log of the benchmark: its file, and the numbers of its plan's rows.
+struct Case {
+    log: Log,
+    file: Vec<u8>,
+    rows: Vec<u32>,
+}
+
+fn case(count: usize, server_count: u8) -> Case {
+    let header = Header { class: 1, server_count, home: 0, id: [7; 16] };
+    let mut random = Random::new(count as u64 * 100 + server_count as u64);
+    let log = Log { header, requests: random_requests(&mut random, &header, count) };
+    let file = log.bytes();
+    let mut rows = vec![0; 8 * count];
+    let (_, number) = Fast::plan(&file, &mut vec![0; count], &mut rows).unwrap();
+    rows.truncate(4 * number as usize);
+    Case { log, file, rows }
+}
+
+/// An output to lend. An empty one has memory too, as a caller's would.
+fn output<T: Clone + Default>(length: usize) -> Vec<T> {
+    let mut output = Vec::with_capacity(length + 1);
+    output.resize(length, T::default());
+    output
+}
+
+/// A whole log given to a new cache, a state going in and coming back by value.
+fn online<C: Calls>(log: &Log) -> Cache {
+    let (mut cache, _) = C::start(log.header.class, log.header.server_count, log.header.home);
+    for request in &log.requests {
+        let (next, served) = C::scan(&cache, request.second, request.server);
+        used(served);
+        cache = next;
+    }
+    cache
+}
+
+/// The same in place, as Rust alone has it.
+fn online_in_place(log: &Log) -> Cache {
+    let (mut cache, _) = Fast::start(log.header.class, log.header.server_count, log.header.home);
+    for request in &log.requests {
+        used(fast::online::scan(&mut cache, request.second, request.server));
+    }
+    cache
+}
+
+/// The sum one byte after the other, as the library takes it.
+fn sum_by_bytes(file: &[u8]) -> u32 {
+    let next = |sum: u32, byte: &u8| sum.wrapping_mul(31).wrapping_add(*byte as u32);
+    let front = file[..file.len().min(20)].iter().fold(0, next);
+    file[file.len().min(24)..].iter().fold(front, next)
+}
+
+/// The times of one call on a case. Both give the same answer.
+fn measure(call: &str, case: &Case) -> Times {
+    let Case { log, file, rows } = case;
+    let count = log.requests.len();
+    match call {
+        "plan" => {
+            let (mut marks_a, mut rows_a) = (output(count), output(rows.len()));
+            let (mut marks_b, mut rows_b) = (output(count), output(rows.len()));
+            assert_eq!(Library::plan(file, &mut marks_a, &mut rows_a), Fast::plan(file, &mut marks_b, &mut rows_b));
+            times(
+                &mut || used(Library::plan(black_box(file), &mut marks_a, &mut rows_a)),
+                &mut || used(Fast::plan(black_box(file), &mut marks_b, &mut rows_b)),
+            )
+        }
+        "least" => {
+            let (mut costs_a, mut costs_b) = (output(count + 1), output(count + 1));
+            assert_eq!(Library::least(file, &mut costs_a), Fast::least(file, &mut costs_b));
+            times(
+                &mut || used(Library::least(black_box(file), &mut costs_a)),
+                &mut || used(Fast::least(black_box(file), &mut costs_b)),
+            )
+        }
+        "check" => {
+            assert_eq!(Library::check(file, rows), Fast::check(file, rows));
+            times(
+                &mut || used(Library::check(black_box(file), black_box(rows))),
+                &mut || used(Fast::check(black_box(file), black_box(rows))),
+            )
+        }
+        "read" => {
+            let (mut seconds_a, mut servers_a) = (output(count), output(count));
+            let (mut seconds_b, mut servers_b) = (output(count), output(count));
+            assert_eq!(Library::read(file, &mut seconds_a, &mut servers_a), Fast::read(file, &mut seconds_b, &mut servers_b));
+            times(
+                &mut || used(Library::read(black_box(file), &mut seconds_a, &mut servers_a)),
+                &mut || used(Fast::read(black_box(file), &mut seconds_b, &mut servers_b)),
+            )
+        }
+        "write" => {
+            let (seconds, servers) = (log.seconds(), log.servers());
+            let (mut file_a, mut file_b) = (output(file.len()), output(file.len()));
+            assert_eq!(Library::write(&log.header, &seconds, &servers, &mut file_a), Fast::write(&log.header, &seconds, &servers, &mut file_b));
+            times(
+                &mut || used(Library::write(&log.header, black_box(&seconds), &servers, &mut file_a)),
+                &mut || used(Fast::write(&log.header, black_box(&seconds), &servers, &mut file_b)),
+            )
+        }
+        "sum" => {
+            assert_eq!(Library::sum(file), Fast::sum(file));
+            times(&mut || used(Library::sum(black_box(file))), &mut || used(Fast::sum(black_box(file))))
+        }
+        "sum by bytes" => {
+            assert_eq!(Library::sum(file), sum_by_bytes(file));
+            times(&mut || used(Library::sum(black_box(file))), &mut || used(sum_by_bytes(black_box(file))))
+        }
+        "scan" => {
+            assert_eq!(online::<Library>(log), online::<Fast>(log));
+            times(&mut || used(online::<Library>(black_box(log))), &mut || used(online::<Fast>(black_box(log))))
+        }
+        "scan in place" => {
+            assert_eq!(online::<Library>(log), online_in_place(log));
+            times(&mut || used(online::<Library>(black_box(log))), &mut || used(online_in_place(black_box(log))))
+        }
+        _ => unreachable!(),
+    }
+}
+
+/// Schedules of many rows that one could write, or be handed.
+#[derive(Clone, Copy)]
+enum Schedule {
+    /// 8 servers: server 0 holds throughout, and each second one of the others is sent a copy.
+    Each,
+    /// 2 servers: the copy goes back and forth each second, held for one second in turn.
+    Back,
+    /// 8 servers: server 0 holds throughout; every second second all others are sent a copy and hold it for one second.
+    Short,
+    /// 64 servers: the last holds throughout; in each second a chain through all others, listed from its end.
+    Chain,
+}
+
+impl Schedule {
+    const ALL: [Schedule; 4] = [Schedule::Each, Schedule::Back, Schedule::Short, Schedule::Chain];
+
+    fn name(self) -> &'static str {
+        match self {
+            Schedule::Each => "a transfer each second",
+            Schedule::Back => "back and forth each second",
+            Schedule::Short => "short holds at 7 servers",
+            Schedule::Chain => "a chain through 64 servers",
+        }
+    }
+
+    /// A log and about so many rows. Their seconds go up to `last`.
+    fn rows(self, rows: u32) -> (u8, u8, u32, Vec<u32>) {
+        match self {
+            Schedule::Each => {
+                let mut numbers = vec![0, 0, 0, rows];
+                numbers.extend((1..rows).flat_map(|second| [1, 0, 1 + second % 7, second]));
+                (8, 0, rows, numbers)
+            }
+            Schedule::Back => {
+                let last = rows / 4 * 2;
+                let mut numbers = Vec::new();
+                for server in 0..2 {
+                    numbers.extend((0..last / 2).flat_map(|k| [0, server, 2 * k + server, 2 * k + server + 1]));
+                }
+                numbers.extend((1..=last).flat_map(|second| [1, (second + 1) % 2, second % 2, second]));
+                (2, 0, last, numbers)
+            }
+            Schedule::Short => {
+                let steps = rows / 14;
+                let mut numbers = vec![0, 0, 0, 2 * steps];
+                for server in 1..8 {
+                    numbers.extend((0..steps).flat_map(|k| [0, server, 2 * k, 2 * k + 1]));
+                }
+                numbers.extend((0..steps).flat_map(|k| (1..8).flat_map(move |server| [1, 0, server, 2 * k])));
+                (8, 0, 2 * steps, numbers)
+            }
+            Schedule::Chain => {
+                let last = rows / 63;
+                let mut numbers = vec![0, 63, 0, last];
+                numbers.extend((1..=last).flat_map(|second| (1..64).flat_map(move |source| [1, source, source - 1, second])));
+                (64, 63, last, numbers)
+            }
+        }
+    }
+
+    /// The same with a full log, its requests spread over all seconds and at servers where a copy stands.
+    fn case(self, rows: u32) -> (Vec<u8>, Vec<u32>) {
+        let (server_count, home, last, numbers) = self.rows(rows);
+        let header = Header { class: 0, server_count, home, id: [0; 16] };
+        let count = last.min(2_048);
+        let server = |second: u32| match self {
+            Schedule::Each | Schedule::Short => 0,
+            Schedule::Back => (second % 2) as u16,
+            Schedule::Chain => (second % 64) as u16,
+        };
+        let second = |i: u32| (last as u64 * i as u64 / count as u64) as u32;
+        let requests = (1..=count).map(|i| Request { second: second(i), server: server(second(i)) }).collect();
+        (Log { header, requests }.bytes(), numbers)
+    }
+}
+
+/// The checker on as many rows as a schedule may well have.
+fn check_rows(schedule: Schedule, rows: u32) -> Line {
+    let (file, numbers) = schedule.case(rows);
+    let answer = Fast::check(&file, &numbers);
+    assert!(answer.is_ok(), "{answer:?}");
+    assert_eq!(Library::check(&file, &numbers), answer);
+    let mut least = Times::NONE;
+    for _ in 0..ROUNDS {
+        least = least.min(times(
+            &mut || used(Library::check(black_box(&file), black_box(&numbers))),
+            &mut || used(Fast::check(black_box(&file), black_box(&numbers))),
+        ));
+    }
+    Line::new(schedule.name(), 0, numbers.len() as u32 / 4, least)
+}
+
+/// One process's times: of the calls on logs of each size, then of the checker on many rows.
+fn measured(wanted: &dyn Fn(&str) -> bool) -> Vec<Line> {
+    let mut lines = Vec::new();
+    for call in CALLS.into_iter().filter(|call| wanted(call)) {
+        for server_count in SERVERS {
+            for count in REQUESTS {
+                let case = case(count, server_count);
+                let least = (0..ROUNDS).fold(Times::NONE, |least, _| least.min(measure(call, &case)));
+                lines.push(Line::new(call, server_count as u32, count as u32, least));
+            }
+        }
+    }
+    if wanted("rows") {
+        for schedule in Schedule::ALL {
+            lines.extend(ROWS.map(|rows| check_rows(schedule, rows)));
+        }
+    }
+    lines
+}
+
+/// The least of the times of several processes.
+fn gathered(words: &[String]) -> Vec<Line> {
+    let mut least: Vec<Line> = Vec::new();
+    for _ in 0..PROCESSES {
+        let own = std::env::current_exe().unwrap();
+        let output = std::process::Command::new(own).arg("--raw").args(words).output().unwrap();
+        assert!(output.status.success(), "{}", String::from_utf8_lossy(&output.stderr));
+        let lines: Vec<Line> = String::from_utf8(output.stdout).unwrap().lines().map(Line::parsed).collect();
+        if least.is_empty() {
+            least = lines;
+        } else {
+            least.iter_mut().zip(&lines).for_each(|(line, other)| line.join(other));
+        }
+    }
+    least
+}
+
+/// Names of calls on the command line choose these alone, and `rows` the checker on many rows.
+fn main() {
+    let words: Vec<String> = std::env::args().skip(1).filter(|word| !word.starts_with('-')).collect();
+    let wanted = |name: &str| words.is_empty() || words.iter().any(|word| word == name);
+    if std::env::args().any(|word| word == "--raw") {
+        measured(&wanted).iter().for_each(|line| println!("{}", line.raw()));
+        return;
+    }
+    let lines = gathered(&words);
+    let (calls, rows): (Vec<Line>, Vec<Line>) = lines.into_iter().partition(|line| line.servers > 0);
+    if !calls.is_empty() {
+        show_summary(&calls);
+        show_calls(&calls);
+    }
+    if !rows.is_empty() {
+        show_rows(&rows);
+    }
+}
+
+/// The ratios of the least times, over all numbers of servers.
+fn show_summary(lines: &[Line]) {
+    println!("## Library / Rust, the least and the greatest over 1, 8 and 64 servers\n");
+    println!("| call | 0 requests | 64 | 512 | 2,048 |");
+    println!("|---|---:|---:|---:|---:|");
+    for call in CALLS {
+        let mine: Vec<&Line> = lines.iter().filter(|line| line.name == call).collect();
+        if mine.is_empty() {
+            continue;
+        }
+        let cells = REQUESTS.map(|count| {
+            let ratios = mine.iter().filter(|line| line.size as usize == count).map(|line| line.least.ratio());
+            let (low, high) = ratios.fold((f64::MAX, 0.0f64), |(low, high), ratio| (low.min(ratio), high.max(ratio)));
+            format!("{low:.2} to {high:.2}")
+        });
+        println!("| {call} | {} |", cells.join(" | "));
+    }
+}
+
+fn show_calls(lines: &[Line]) {
+    println!("\n## Times of one call\n");
+    println!("`scan` is a start and then a scan for each request, the state going in and coming back by value in both; `scan in place`");
+    println!("has Rust change its state where it is. Rust's `sum` takes four bytes at a time, its `sum by bytes` one.");
+    println!("Outputs are just as long as needed. Growth is against the line above. The last column is the ratio in each of {PROCESSES} processes.\n");
+    println!("| call | servers | requests | library | growth | Rust | growth | library / Rust | range |");
+    println!("|---|---:|---:|---:|---:|---:|---:|---:|---:|");
+    for (i, line) in lines.iter().enumerate() {
+        let before = if line.size == 0 { None } else { lines.get(i.wrapping_sub(1)) };
+        println!("| {} | {} | {} | {} |", line.name, line.servers, line.size, line.columns(before));
+    }
+}
+
+fn show_rows(lines: &[Line]) {
+    println!("\n## The checker on many rows\n");
+    println!("Schedules that are accepted, over logs of up to 2,048 requests. Growth is against the line above.\n");
+    println!("| schedule | rows | library | growth | Rust | growth | library / Rust | range |");
+    println!("|---|---:|---:|---:|---:|---:|---:|---:|");
+    for (i, line) in lines.iter().enumerate() {
+        let before = lines.get(i.wrapping_sub(1)).filter(|before| before.name == line.name);
+        println!("| {} | {} | {} |", line.name, line.size, line.columns(before));
+    }
+}

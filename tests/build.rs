@@ -1,0 +1,13 @@
+//! Where the static library of `rt staticlib exports` is: target/staticlib of this repository, or the folder that EXPORTS_DIR names.
+use std::env;
+use std::path::PathBuf;
+
+fn main() {
+    let folder = match env::var_os("EXPORTS_DIR") {
+        Some(named) => PathBuf::from(named),
+        None => PathBuf::from(env::var_os("CARGO_MANIFEST_DIR").expect("cargo sets it")).join("../target/staticlib"),
+    };
+    println!("cargo:rerun-if-env-changed=EXPORTS_DIR");
+    println!("cargo:rerun-if-changed={}", folder.join("libexports.a").display());
+    println!("cargo:rustc-link-search=native={}", folder.display());
+}

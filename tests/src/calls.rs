@@ -1,0 +1,112 @@
+//! The public calls over lent outputs. An accepted call writes its answer and zeros each lent output beyond it;
+//! a refused one leaves them all as they were.
+
+use crate::checker::{self, flat};
+use crate::log::{self, Header};
+use crate::online::{self, Cache, Served};
+use crate::planner::{self, letter};
+use crate::{refuse, Refusal};
+
+/// An implementation of the public calls.
+pub trait Calls {
+    fn sum(file: &[u8]) -> u32;
+
+    /// A header, of zeros if refused, and the number of requests.
+    fn read(file: &[u8], seconds: &mut [u32], servers: &mut [u16]) -> (Header, Result<u16, Refusal>);
+
+    /// The length of the log.
+    fn write(header: &Header, seconds: &[u32], servers: &[u16], out: &mut [u8]) -> Result<u64, Refusal>;
+
+    /// The cost of the rows.
+    fn check(file: &[u8], rows: &[u32]) -> Result<u64, Refusal>;
+
+    /// The cost and the number of rows.
+    fn plan(file: &[u8], marks: &mut [u8], rows: &mut [u32]) -> Result<(u64, u32), Refusal>;
+
+    /// The number of least costs: one for none, one, .. and all requests.
+    fn least(file: &[u8], costs: &mut [u64]) -> Result<u32, Refusal>;
+
+    fn start(class: u8, server_count: u8, home: u8) -> (Cache, Result<(), Refusal>);
+
+    fn scan(cache: &Cache, second: u32, server: u16) -> (Cache, Result<Served, Refusal>);
+
+    /// The running cost.
+    fn close(cache: &Cache) -> (Cache, Result<u64, Refusal>);
+}
+
+/// The simple implementation.
+pub struct Simple;
+
+/// 31, for an output of a length and the length that is needed.
+fn check_room(length: usize, needed: usize) -> Result<(), Refusal> {
+    if length < needed {
+        return refuse(31, needed);
+    }
+    Ok(())
+}
+
+fn put<T: Copy + Default>(out: &mut [T], answer: &[T]) {
+    out.fill(T::default());
+    out[..answer.len()].copy_from_slice(answer);
+}
+
+fn read_accepted(file: &[u8], seconds: &mut [u32], servers: &mut [u16]) -> Result<(Header, u16), Refusal> {
+    let log = log::read(file)?;
+    check_room(seconds.len(), log.requests.len())?;
+    check_room(servers.len(), log.requests.len())?;
+    put(seconds, &log.seconds());
+    put(servers, &log.servers());
+    Ok((log.header, log.requests.len() as u16))
+}
+
+impl Calls for Simple {
+    fn sum(file: &[u8]) -> u32 {
+        log::sum(file)
+    }
+
+    fn read(file: &[u8], seconds: &mut [u32], servers: &mut [u16]) -> (Header, Result<u16, Refusal>) {
+        match read_accepted(file, seconds, servers) {
+            Ok((header, count)) => (header, Ok(count)),
+            Err(refusal) => (Header::default(), Err(refusal)),
+        }
+    }
+
+    fn write(header: &Header, seconds: &[u32], servers: &[u16], out: &mut [u8]) -> Result<u64, Refusal> {
+        let file = log::write(header, seconds, servers)?;
+        check_room(out.len(), file.len())?;
+        put(out, &file);
+        Ok(file.len() as u64)
+    }
+
+    fn check(file: &[u8], rows: &[u32]) -> Result<u64, Refusal> {
+        checker::check(&log::read(file)?, rows)
+    }
+
+    fn plan(file: &[u8], marks: &mut [u8], rows: &mut [u32]) -> Result<(u64, u32), Refusal> {
+        let plan = planner::plan(&log::read(file)?);
+        check_room(marks.len(), plan.marks.len())?;
+        check_room(rows.len(), 4 * plan.rows.len())?;
+        put(marks, &plan.marks.iter().map(|&mark| letter(mark)).collect::<Vec<_>>());
+        put(rows, &flat(&plan.rows));
+        Ok((plan.cost, plan.rows.len() as u32))
+    }
+
+    fn least(file: &[u8], costs: &mut [u64]) -> Result<u32, Refusal> {
+        let least = planner::least(&log::read(file)?);
+        check_room(costs.len(), least.len())?;
+        put(costs, &least);
+        Ok(least.len() as u32)
+    }
+
+    fn start(class: u8, server_count: u8, home: u8) -> (Cache, Result<(), Refusal>) {
+        online::start(class, server_count, home)
+    }
+
+    fn scan(cache: &Cache, second: u32, server: u16) -> (Cache, Result<Served, Refusal>) {
+        cache.scan(second, server)
+    }
+
+    fn close(cache: &Cache) -> (Cache, Result<u64, Refusal>) {
+        cache.close()
+    }
+}

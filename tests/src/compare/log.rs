@@ -1,0 +1,198 @@
+//! Sum, reader and writer.
+
+use super::{noise16, noise32, noise8, room, Met};
+use crate::calls::{Calls, Simple};
+use crate::log::{self, Header, Log, Request, LAST_SECOND, MOST_REQUESTS};
+use crate::random::{damaged_log, random_header, random_log, random_requests, Random};
+use crate::Refusal;
+
+pub fn sums<C: Calls>() {
+    let mut random = Random::new(100);
+    for length in (0..200).chain([12_328, 12_329, 100_000]) {
+        for _ in 0..3 {
+            let file = random.bytes(length);
+            assert_eq!(C::sum(&file), Simple::sum(&file), "{file:?}");
+        }
+        assert_eq!(C::sum(&vec![255; length]), Simple::sum(&vec![255; length]));
+    }
+}
+
+/// One file read with outputs of the given lengths.
+fn read<C: Calls>(random: &mut Random, file: &[u8], seconds: usize, servers: usize) -> Result<u16, Refusal> {
+    let (seconds, servers) = (noise32(random, seconds), noise16(random, servers));
+    let (mut seconds_a, mut servers_a) = (seconds.clone(), servers.clone());
+    let (mut seconds_b, mut servers_b) = (seconds, servers);
+    let a = Simple::read(file, &mut seconds_a, &mut servers_a);
+    let b = C::read(file, &mut seconds_b, &mut servers_b);
+    assert_eq!(b, a, "{file:?}");
+    assert_eq!(seconds_b, seconds_a, "{file:?}");
+    assert_eq!(servers_b, servers_a, "{file:?}");
+    a.1
+}
+
+fn read_with_any_room<C: Calls>(random: &mut Random, file: &[u8]) -> Result<u16, Refusal> {
+    let count = file.len().saturating_sub(40) / 6;
+    let (seconds, servers) = (room(random, count), room(random, count));
+    read::<C>(random, file, seconds, servers)
+}
+
+pub fn reads<C: Calls>(seed: u64, times: usize) {
+    let mut random = Random::new(seed);
+    let mut met = Met::default();
+    for i in 0..times {
+        let file = match i % 3 {
+            0 => random_log(&mut random, 30).bytes(),
+            _ => damaged_log(&mut random),
+        };
+        met.count(&read_with_any_room::<C>(&mut random, &file));
+    }
+    met.exactly(&[0, 1, 2, 3, 4, 5, 6, 7, 8, 9, 10, 11, 12, 13, 31], times as u64 / 1_000);
+}
+
+fn small() -> Log {
+    let header = Header { class: 5, server_count: 3, home: 2, id: *b"0123456789abcdef" };
+    let requests = vec![Request { second: 2, server: 1 }, Request { second: 258, server: 0 }];
+    Log { header, requests }
+}
+
+/// Each byte of a small log at each value, with its sum made to fit and not.
+pub fn every_byte<C: Calls>() {
+    let mut random = Random::new(101);
+    let mut met = Met::default();
+    let good = small().bytes();
+    for at in 0..good.len() {
+        for byte in 0..=255 {
+            let mut file = good.clone();
+            file[at] = byte;
+            met.count(&read::<C>(&mut random, &file, 2, 3));
+            let sum = log::sum(&file);
+            file[20..24].copy_from_slice(&sum.to_le_bytes());
+            met.count(&read::<C>(&mut random, &file, 3, 2));
+        }
+    }
+    met.exactly(&[0, 2, 3, 4, 5, 6, 7, 8, 10, 11, 12, 13], 2);
+}
+
+/// A small log cut and lengthened to each length, its fields as they were or made to fit.
+pub fn every_length<C: Calls>() {
+    let mut random = Random::new(102);
+    let mut met = Met::default();
+    let good = small().bytes();
+    for length in 0..100 {
+        let mut file = good.clone();
+        file.resize(length, 0);
+        met.count(&read::<C>(&mut random, &file, 20, 20));
+        if length >= 24 {
+            let sum = log::sum(&file);
+            file[20..24].copy_from_slice(&sum.to_le_bytes());
+            met.count(&read::<C>(&mut random, &file, 20, 20));
+            file[16..20].copy_from_slice(&(length as u32).to_le_bytes());
+            file[6..8].copy_from_slice(&((length as u16).saturating_sub(40) / 6).to_le_bytes());
+            let sum = log::sum(&file);
+            file[20..24].copy_from_slice(&sum.to_le_bytes());
+            met.count(&read::<C>(&mut random, &file, 20, 20));
+        }
+    }
+    met.exactly(&[0, 1, 8, 9, 12], 5);
+}
+
+/// One write into an output of the given length.
+fn write<C: Calls>(random: &mut Random, header: &Header, seconds: &[u32], servers: &[u16], length: usize) -> Result<u64, Refusal> {
+    let out = noise8(random, length);
+    let (mut out_a, mut out_b) = (out.clone(), out);
+    let a = Simple::write(header, seconds, servers, &mut out_a);
+    let b = C::write(header, seconds, servers, &mut out_b);
+    assert_eq!(b, a, "{header:?} {seconds:?} {servers:?}");
+    assert_eq!(out_b, out_a, "{header:?} {seconds:?} {servers:?}");
+    a
+}
+
+fn spoil(random: &mut Random, header: &mut Header, seconds: &mut Vec<u32>, servers: &mut Vec<u16>) {
+    let at = random.below(seconds.len().max(1) as u64) as usize;
+    match random.below(10) {
+        0 => header.class = random.word() as u8,
+        1 => header.server_count = random.one_of(&[0, 65, 255, 1]),
+        2 => header.home = random.word() as u8,
+        3 => drop(seconds.pop()),
+        4 => drop(servers.pop()),
+        5 if at < servers.len() => servers[at] = random.one_of(&[64, 256, 0xffff, header.server_count as u16]),
+        6 if at < seconds.len() => seconds[at] = random.one_of(&[0, LAST_SECOND + 1, u32::MAX, LAST_SECOND]),
+        7 if at < seconds.len() && at > 0 => seconds[at] = seconds[at - 1],
+        8 if at < seconds.len() => seconds[at] = random.number(),
+        9 => {
+            let length = MOST_REQUESTS + random.below(3) as usize;
+            seconds.resize(length, 1);
+            servers.resize(length, 0);
+        }
+        _ => {}
+    }
+}
+
+pub fn writes<C: Calls>(seed: u64, times: usize) {
+    let mut random = Random::new(seed);
+    let mut met = Met::default();
+    for i in 0..times {
+        let log = random_log(&mut random, 30);
+        let (mut header, mut seconds, mut servers) = (log.header, log.seconds(), log.servers());
+        if i % 3 != 0 {
+            for _ in 0..random.one_of(&[1, 1, 2]) {
+                spoil(&mut random, &mut header, &mut seconds, &mut servers);
+            }
+        }
+        let length = room(&mut random, 40 + 6 * seconds.len());
+        met.count(&write::<C>(&mut random, &header, &seconds, &servers, length));
+    }
+    met.exactly(&[0, 3, 4, 5, 7, 11, 12, 13, 31], times as u64 / 1_000);
+}
+
+/// What is written is read back, and what is read is written again.
+pub fn round_trips<C: Calls>(seed: u64, times: usize) {
+    let mut random = Random::new(seed);
+    for _ in 0..times {
+        let log = random_log(&mut random, 50);
+        let count = log.requests.len();
+        let mut file = noise8(&mut random, 40 + 6 * count);
+        assert_eq!(C::write(&log.header, &log.seconds(), &log.servers(), &mut file), Ok(file.len() as u64));
+        let (mut seconds, mut servers) = (noise32(&mut random, count), noise16(&mut random, count));
+        assert_eq!(C::read(&file, &mut seconds, &mut servers), (log.header, Ok(count as u16)));
+        assert_eq!((seconds, servers), (log.seconds(), log.servers()));
+    }
+}
+
+/// The largest logs, and one request more.
+pub fn longest<C: Calls>() {
+    let mut random = Random::new(103);
+    let mut met = Met::default();
+    for count in [MOST_REQUESTS - 1, MOST_REQUESTS, MOST_REQUESTS + 1] {
+        let header = random_header(&mut random);
+        let requests = random_requests(&mut random, &header, count);
+        let log = Log { header, requests };
+        let file = log.bytes();
+        for length in [count - 1, count, count + 5] {
+            met.count(&read::<C>(&mut random, &file, length, count));
+            met.count(&read::<C>(&mut random, &file, count, length));
+            met.count(&write::<C>(&mut random, &log.header, &log.seconds(), &log.servers(), 40 + 6 * length));
+        }
+    }
+    met.exactly(&[0, 7, 31], 6);
+}
+
+/// Server counts, homes, servers and seconds about their bounds, read and written.
+pub fn bounds<C: Calls>() {
+    let mut random = Random::new(104);
+    let mut met = Met::default();
+    for server_count in [0, 1, 63, 64, 65, 255] {
+        for home in [0, 62, 63, 64, 255] {
+            for server in [0, 62, 63, 64, 255, 256, 0xffff] {
+                for second in [0, 1, LAST_SECOND - 1, LAST_SECOND, LAST_SECOND + 1, u32::MAX] {
+                    let header = Header { class: 7, server_count, home, id: [0xaa; 16] };
+                    let requests = vec![Request { second: 1, server: 0 }, Request { second, server }];
+                    let log = Log { header, requests };
+                    met.count(&read::<C>(&mut random, &log.bytes(), 2, 2));
+                    met.count(&write::<C>(&mut random, &header, &log.seconds(), &log.servers(), 52));
+                }
+            }
+        }
+    }
+    met.exactly(&[0, 4, 5, 11, 12, 13], 10);
+}

@@ -1,0 +1,119 @@
+//! The comparison of an implementation of the calls with the simple one, over inputs of each kind.
+//!
+//! Lent outputs are full of noise before a call, and longer than needed, just long enough or too short; they are
+//! compared whole after it, so that zeros beyond an answer and outputs left as they were are seen.
+
+pub mod checker;
+pub mod log;
+pub mod online;
+pub mod planner;
+pub mod weeks;
+
+use crate::random::Random;
+use crate::Refusal;
+use std::collections::BTreeMap;
+
+/// How often each refusal was met; 0 counts what was accepted.
+#[derive(Debug, Default)]
+pub struct Met {
+    times: BTreeMap<u8, u64>,
+}
+
+impl Met {
+    fn count<T>(&mut self, outcome: &Result<T, Refusal>) {
+        let number = outcome.as_ref().err().map_or(0, |refusal| refusal.number);
+        *self.times.entry(number).or_default() += 1;
+    }
+
+    /// Nothing but these numbers, each at least so often.
+    fn exactly(&self, numbers: &[u8], least: u64) {
+        let met: Vec<u8> = self.times.keys().copied().collect();
+        assert_eq!(met, numbers, "{self:?}");
+        self.at_least(numbers, least);
+    }
+
+    /// Each of these numbers at least so often.
+    fn at_least(&self, numbers: &[u8], least: u64) {
+        let often = |number| self.times.get(number).is_some_and(|&times| times >= least.max(1));
+        assert!(numbers.iter().all(often), "{self:?}");
+    }
+}
+
+/// A length for an output: too short, just long enough or longer.
+fn room(random: &mut Random, needed: usize) -> usize {
+    match random.below(8) {
+        0 if needed > 0 => needed - 1,
+        1 => random.below(needed as u64 + 1) as usize,
+        2 => needed + 1,
+        3 | 4 => needed + random.below(40) as usize,
+        _ => needed,
+    }
+}
+
+fn noise8(random: &mut Random, length: usize) -> Vec<u8> {
+    random.bytes(length)
+}
+
+fn noise16(random: &mut Random, length: usize) -> Vec<u16> {
+    (0..length).map(|_| random.word() as u16).collect()
+}
+
+fn noise32(random: &mut Random, length: usize) -> Vec<u32> {
+    (0..length).map(|_| random.word() as u32).collect()
+}
+
+fn noise64(random: &mut Random, length: usize) -> Vec<u64> {
+    (0..length).map(|_| random.word()).collect()
+}
+
+/// The fast implementation goes through all of it.
+#[cfg(test)]
+mod tests {
+    use super::*;
+    use crate::fast::Fast;
+
+    #[test]
+    fn fast_log() {
+        log::sums::<Fast>();
+        log::every_byte::<Fast>();
+        log::every_length::<Fast>();
+        log::reads::<Fast>(11, 10_000);
+        log::writes::<Fast>(12, 10_000);
+        log::round_trips::<Fast>(13, 1_000);
+        log::longest::<Fast>();
+        log::bounds::<Fast>();
+    }
+
+    #[test]
+    fn fast_checker() {
+        checker::every_pair_of_rows::<Fast>();
+        checker::every_list_of_rows::<Fast>();
+        checker::random_rows::<Fast>(14, 20_000);
+        checker::damaged_logs::<Fast>(15, 1_000);
+        checker::longest_chain::<Fast>();
+        checker::many_rows::<Fast>(16);
+        checker::bounds::<Fast>();
+    }
+
+    #[test]
+    fn fast_planner() {
+        planner::every_small_log::<Fast>(3);
+        planner::random_logs::<Fast>(17, 5_000);
+        planner::damaged_logs::<Fast>(18, 1_000);
+        planner::all_markings::<Fast>(19, 500);
+        planner::all_sets::<Fast>(20, 500);
+        planner::all_schedules::<Fast>();
+        planner::every_small_log_by_sets::<Fast>(3);
+        planner::long_logs::<Fast>(21, 1);
+        planner::bounds::<Fast>();
+    }
+
+    #[test]
+    fn fast_online() {
+        online::starts::<Fast>();
+        online::every_small_list::<Fast>(3);
+        online::random_lists::<Fast>(22, 1_000);
+        online::made_up_states::<Fast>(23, 10_000);
+        online::full::<Fast>(24);
+    }
+}

@@ -1,0 +1,296 @@
+//! The online cache, call by call and over lists of calls.
+
+use super::Met;
+use crate::calls::{Calls, Simple};
+use crate::log::{Header, Log, Request, LAST_SECOND, MOST_REQUESTS};
+use crate::online::{history, Cache, Served, MOST_HELD};
+use crate::planner::Mark;
+use crate::prices::Prices;
+use crate::random::{random_gap, random_header, Random};
+use crate::Refusal;
+
+#[derive(Clone, Copy, Debug)]
+enum Call {
+    Scan(u32, u16),
+    Close,
+}
+
+/// One call on a state, by both; what it gave, and the state given back.
+fn call<C: Calls>(cache: &Cache, call: Call, met: &mut Met) -> (Cache, Result<Option<Served>, Refusal>) {
+    match call {
+        Call::Scan(second, server) => {
+            let a = Simple::scan(cache, second, server);
+            assert_eq!(C::scan(cache, second, server), a, "{cache:?} {call:?}");
+            met.count(&a.1);
+            (a.0, a.1.map(Some))
+        }
+        Call::Close => {
+            let a = Simple::close(cache);
+            assert_eq!(C::close(cache), a, "{cache:?} {call:?}");
+            met.count(&a.1);
+            (a.0, a.1.map(|_| None))
+        }
+    }
+}
+
+/// Starts of every class, count and home about their bounds.
+pub fn starts<C: Calls>() {
+    let mut met = Met::default();
+    for class in (0..12).chain([128, 255]) {
+        for server_count in 0..=255u8 {
+            for home in (0..4).chain([62, 63, 64, 65, 254, 255]).chain([server_count.saturating_sub(1), server_count]) {
+                let a = Simple::start(class, server_count, home);
+                assert_eq!(C::start(class, server_count, home), a, "{class} {server_count} {home}");
+                met.count(&a.1);
+            }
+        }
+    }
+    met.exactly(&[0, 3, 4, 5], 100);
+}
+
+/// What 01 says of a call in a list from the start and the calls before it alone: its refusal, if any.
+fn expected(header: &Header, taken: &[Request], closed: bool, call: Call) -> Option<u8> {
+    if let Call::Scan(second, server) = call {
+        if server >= header.server_count as u16 {
+            return Some(11);
+        }
+        if second == 0 || second > LAST_SECOND {
+            return Some(12);
+        }
+    }
+    if closed {
+        return Some(33);
+    }
+    match call {
+        Call::Scan(..) if taken.len() == MOST_REQUESTS => Some(34),
+        Call::Scan(second, _) if taken.last().map_or(false, |request| second <= request.second) => Some(35),
+        _ => None,
+    }
+}
+
+/// A list of calls in progress: the state last given back, and what the list alone says.
+struct Run {
+    header: Header,
+    cache: Cache,
+    taken: Vec<Request>,
+    marks: Vec<Mark>,
+    closed: bool,
+}
+
+impl Run {
+    fn start<C: Calls>(header: Header) -> Run {
+        let (cache, ready) = C::start(header.class, header.server_count, header.home);
+        assert_eq!(ready, Ok(()));
+        Run { header, cache, taken: vec![], marks: vec![], closed: false }
+    }
+
+    fn step<C: Calls>(&mut self, next: Call, met: &mut Met) {
+        let (cache, outcome) = call::<C>(&self.cache, next, met);
+        let refusal = expected(&self.header, &self.taken, self.closed, next);
+        assert_eq!(outcome.err().map(|refusal| (refusal.number, refusal.place)), refusal.map(|number| (number, 0)), "{next:?}");
+        match (next, outcome) {
+            (Call::Scan(second, server), Ok(served)) => {
+                self.taken.push(Request { second, server });
+                self.marks.push(if served == Some(Served::Kept) { Mark::K } else { Mark::S });
+            }
+            (Call::Close, Ok(_)) => self.closed = true,
+            _ => assert_eq!(cache, self.cache),
+        }
+        self.cache = cache;
+    }
+
+    /// Demand 3 at the end of a list: counts as the rules give them, and the running cost between least and three times it.
+    fn end<C: Calls>(&self) {
+        let Header { class, home, .. } = self.header;
+        assert_eq!(self.cache.requests as usize, self.taken.len());
+        if self.taken.last().map_or(0, |request| request.second) <= 3_000 {
+            let history = history(class, home, &self.taken);
+            assert_eq!((self.cache.transfers, self.cache.held, self.cache.holders), (history.transfers, history.held, history.standing));
+            assert_eq!(self.marks, history.marks);
+        }
+        let log = Log { header: self.header, requests: self.taken.clone() };
+        let mut file = vec![0; 40 + 6 * self.taken.len()];
+        C::write(&self.header, &log.seconds(), &log.servers(), &mut file).unwrap();
+        let mut costs = vec![0; self.taken.len() + 1];
+        C::least(&file, &mut costs).unwrap();
+        let (least, running) = (costs[self.taken.len()], self.cache.running());
+        assert!(least <= running && running <= 3 * least, "{log:?} {least} {running}");
+    }
+}
+
+/// All lists of a few calls: scans at up to three servers after a gap of 0, 1, the window and one more, and closes.
+pub fn every_small_list<C: Calls>(most: usize) {
+    let mut met = Met::default();
+    for class in 0..8 {
+        let window = Prices::of(class).window() as u32;
+        let mut gaps = vec![0, 1, window.max(1), window + 1];
+        gaps.dedup();
+        for server_count in 1..=3 {
+            let (cache, _) = C::start(class, server_count, server_count / 2);
+            every_list::<C>(&cache, &gaps, most, &mut met);
+        }
+    }
+    met.exactly(&[0, 11, 12, 33, 35], 10);
+}
+
+fn every_list<C: Calls>(cache: &Cache, gaps: &[u32], left: usize, met: &mut Met) {
+    if left == 0 {
+        return;
+    }
+    let (next, _) = call::<C>(cache, Call::Close, met);
+    if left > 1 {
+        every_list::<C>(&next, &gaps[..2], 1, met);
+    }
+    for gap in gaps {
+        for server in 0..=cache.server_count as u16 {
+            let (next, outcome) = call::<C>(cache, Call::Scan(cache.second + gap, server), met);
+            if outcome.is_ok() {
+                every_list::<C>(&next, gaps, left - 1, met);
+            }
+        }
+    }
+}
+
+fn random_call(random: &mut Random, run: &Run, ends: u64) -> Call {
+    let count = run.header.server_count as u64;
+    let server = if random.once_in(4) { run.cache.last } else { random.below(count) as u16 };
+    let later = run.cache.second + random_gap(random, run.header.class, LAST_SECOND);
+    match random.below(30) {
+        0 => Call::Scan(later, random.one_of(&[count as u16, count as u16 + 1, 64, 256, 0xffff])),
+        1 => Call::Scan(random.one_of(&[0, LAST_SECOND + 1, u32::MAX]), server),
+        2 => Call::Scan(run.cache.second - random.below(run.cache.second as u64 + 1) as u32, server),
+        3 => Call::Scan(random.number(), random.word() as u16),
+        4 if random.once_in(ends) => Call::Close,
+        _ => Call::Scan(later, server),
+    }
+}
+
+pub fn random_lists<C: Calls>(seed: u64, times: usize) {
+    let mut random = Random::new(seed);
+    let mut met = Met::default();
+    for _ in 0..times {
+        let mut run = Run::start::<C>(random_header(&mut random));
+        let length = random.one_of(&[0, 5, 20, 60, 120]);
+        let ends = random.one_of(&[1, 1, 5, 1_000]);
+        for _ in 0..random.between(0, length) {
+            let next = random_call(&mut random, &run, ends);
+            run.step::<C>(next, &mut met);
+        }
+        run.end::<C>();
+    }
+    met.exactly(&[0, 11, 12, 33, 35], times as u64 / 10);
+}
+
+/// A state that passes 32, whether or not calls lead to it.
+fn sound(random: &mut Random) -> Cache {
+    let header = random_header(random);
+    let window = Prices::of(header.class).window();
+    let second = random.one_of(&[0, 1, 5, 40, 1_000, 3_999_999, LAST_SECOND]);
+    let last = random.below(header.server_count as u64) as u16;
+    let mut holders = random.word() & random.word() & (u64::MAX >> (64 - header.server_count as u32));
+    holders |= 1 << last;
+    let mut last_use = [0; 64];
+    for server in (0..64).filter(|&server| holders >> server & 1 == 1) {
+        let age = match random.below(4) {
+            0 => window,
+            1 => 0,
+            _ => random.between(0, window),
+        };
+        last_use[server] = second - age.min(second as u64) as u32;
+    }
+    last_use[last as usize] = second;
+    let requests = random.one_of(&[0, 1, 2, 100, 2_047, 2_048]);
+    Cache {
+        class: header.class,
+        server_count: header.server_count,
+        last,
+        second,
+        last_use,
+        holders,
+        requests,
+        transfers: random.between(0, requests as u64) as u32,
+        held: random.one_of(&[0, 1, 77, 1_000_000, MOST_HELD - 1, MOST_HELD]),
+        closed: random.once_in(6),
+    }
+}
+
+/// One field changed: to a value about its bound, or to any.
+fn spoil(random: &mut Random, cache: &mut Cache) {
+    let server = random.below(64) as usize;
+    match random.below(14) {
+        0 => cache.class = random.one_of(&[7, 8, 255, 0, 6]),
+        1 => cache.server_count = random.one_of(&[0, 1, 64, 65, 200, 255]),
+        2 => cache.last = random.one_of(&[0, 1, 63, 64, 65, 256, 0xffff, cache.server_count as u16]),
+        3 => cache.second = cache.second.wrapping_add(random.one_of(&[1, 2, u32::MAX])),
+        4 => cache.second = random.number(),
+        5 => cache.last_use[server] = random.number(),
+        6 => cache.last_use[server] = random.one_of(&[cache.second, cache.second.wrapping_add(1)]),
+        7 if cache.last < 64 => cache.last_use[cache.last as usize] = cache.second.wrapping_sub(1),
+        8 => cache.holders ^= 1 << server,
+        9 => cache.holders = random.word(),
+        10 => cache.requests = random.one_of(&[2_048, 2_049, u32::MAX, 0]),
+        11 => cache.transfers = random.one_of(&[cache.requests, cache.requests.wrapping_add(1), u32::MAX]),
+        12 => cache.held = random.one_of(&[MOST_HELD, MOST_HELD + 1, u32::MAX]),
+        _ if cache.class < 8 => {
+            // a copy at its last second, or one second past it
+            let age = Prices::of(cache.class).window() as u32 + random.below(2) as u32;
+            if cache.holders >> server & 1 == 1 && age <= cache.second {
+                cache.last_use[server] = cache.second - age;
+            }
+        }
+        _ => {}
+    }
+}
+
+/// Calls on states that nobody gave back, most of them with one field wrong.
+pub fn made_up_states<C: Calls>(seed: u64, times: usize) {
+    let mut random = Random::new(seed);
+    let mut met = Met::default();
+    for _ in 0..times {
+        let mut cache = sound(&mut random);
+        for _ in 0..random.one_of(&[0, 1, 1, 1, 2, 4]) {
+            spoil(&mut random, &mut cache);
+        }
+        let second = match random.below(5) {
+            0 => random.number(),
+            1 => cache.second,
+            _ => cache.second.saturating_add(random.between(1, 2_000) as u32).min(LAST_SECOND),
+        };
+        let any = random.below(66) as u16;
+        let server = random.one_of(&[cache.last, 0, 1, 63, any]);
+        let _ = call::<C>(&cache, Call::Scan(second, server), &mut met);
+        let _ = call::<C>(&cache, Call::Close, &mut met);
+    }
+    met.exactly(&[0, 11, 12, 32, 33, 34, 35], times as u64 / 100);
+}
+
+/// Lists of 2,048 requests taken and more calls after them; one with as many held seconds as can be.
+pub fn full<C: Calls>(seed: u64) {
+    let mut random = Random::new(seed);
+    let mut met = Met::default();
+    for (class, server_count) in [(0, 64), (7, 64), (6, 3), (4, 8), (5, 1)] {
+        let mut run = Run::start::<C>(Header { class, server_count, home: 0, id: [0; 16] });
+        while run.taken.len() < MOST_REQUESTS {
+            let gap = random_gap(&mut random, class, 1_900);
+            let server = random.below(server_count as u64) as u16;
+            run.step::<C>(Call::Scan(run.cache.second + gap, server), &mut met);
+        }
+        for next in [Call::Scan(run.cache.second + 1, 0), Call::Scan(1, 0), Call::Scan(1, 64), Call::Scan(0, 0), Call::Close, Call::Close] {
+            run.step::<C>(next, &mut met);
+        }
+        run.end::<C>();
+    }
+    let mut run = Run::start::<C>(Header { class: 7, server_count: 64, home: 0, id: [0; 16] });
+    for server in 1..64 {
+        run.step::<C>(Call::Scan(server as u32, server), &mut met);
+    }
+    while run.taken.len() < MOST_REQUESTS - 1 {
+        let next = run.cache.second + 2_000;
+        let oldest = (0..64).min_by_key(|&server| run.cache.last_use[server]).unwrap() as u16;
+        run.step::<C>(Call::Scan(next, oldest), &mut met);
+    }
+    run.step::<C>(Call::Scan(LAST_SECOND, 0), &mut met);
+    assert!(run.cache.held > 200_000_000);
+    run.end::<C>();
+    met.exactly(&[0, 11, 12, 33, 34], 1);
+}

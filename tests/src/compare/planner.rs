@@ -1,0 +1,225 @@
+//! The planner and the least costs.
+
+use super::{noise32, noise64, noise8, room, Met};
+use crate::calls::{Calls, Simple};
+use crate::log::{Header, Log, Request, LAST_SECOND, MOST_REQUESTS};
+use crate::planner::{self, letter, Plan};
+use crate::prices::Prices;
+use crate::random::{damaged_log, random_header, random_log, random_requests, Random};
+use crate::search::{least_by_schedules, least_by_sets, lists_of_gaps};
+use crate::Refusal;
+
+/// The plan of a file, with outputs of the given lengths.
+fn plan<C: Calls>(random: &mut Random, file: &[u8], marks: usize, rows: usize) -> Result<(u64, u32), Refusal> {
+    let (marks, rows) = (noise8(random, marks), noise32(random, rows));
+    let (mut marks_a, mut rows_a) = (marks.clone(), rows.clone());
+    let (mut marks_b, mut rows_b) = (marks, rows);
+    let a = Simple::plan(file, &mut marks_a, &mut rows_a);
+    let b = C::plan(file, &mut marks_b, &mut rows_b);
+    assert_eq!(b, a, "{file:?}");
+    assert_eq!(marks_b, marks_a, "{file:?}");
+    assert_eq!(rows_b, rows_a, "{file:?}");
+    a
+}
+
+/// The least costs of a file, with an output of the given length.
+fn least<C: Calls>(random: &mut Random, file: &[u8], costs: usize) -> Result<u32, Refusal> {
+    let costs = noise64(random, costs);
+    let (mut costs_a, mut costs_b) = (costs.clone(), costs);
+    let a = Simple::least(file, &mut costs_a);
+    let b = C::least(file, &mut costs_b);
+    assert_eq!(b, a, "{file:?}");
+    assert_eq!(costs_b, costs_a, "{file:?}");
+    a
+}
+
+/// Plan and least costs of a log, and what the checker says of the plan.
+fn both<C: Calls>(random: &mut Random, log: &Log, met: &mut Met) {
+    let file = log.bytes();
+    let count = log.requests.len();
+    let rows = 4 * planner::plan(log).rows.len();
+    let (marks_room, rows_room, costs_room) = (room(random, count), room(random, rows), room(random, count + 1));
+    met.count(&plan::<C>(random, &file, marks_room, rows_room));
+    met.count(&least::<C>(random, &file, costs_room));
+    if count == 0 || random.once_in(8) {
+        accepted::<C>(&file, count, rows);
+    }
+}
+
+/// The checker accepts the plan, with the plan's cost.
+fn accepted<C: Calls>(file: &[u8], count: usize, rows: usize) {
+    let (mut marks, mut rows) = (vec![0; count], vec![0; rows]);
+    let (cost, number) = C::plan(file, &mut marks, &mut rows).unwrap();
+    assert!(number as usize * 4 == rows.len() && number <= 4_096);
+    assert_eq!(C::check(file, &rows), Ok(cost), "{file:?}");
+}
+
+/// All logs of at most `most` requests at up to three servers whose gaps are 1, the window and the window and one more.
+pub fn every_small_log<C: Calls>(most: usize) {
+    let mut random = Random::new(200);
+    let mut met = Met::default();
+    for class in 0..8 {
+        let window = Prices::of(class).window() as u32;
+        let mut gaps = vec![1, window.max(1), window + 1];
+        gaps.dedup();
+        for server_count in 1..=3 {
+            for home in 0..server_count.min(2) {
+                let header = Header { class, server_count, home, id: [0; 16] };
+                for requests in lists_of_gaps(server_count, &gaps, most) {
+                    let log = Log { header, requests };
+                    if log.last_second() <= LAST_SECOND {
+                        both::<C>(&mut random, &log, &mut met);
+                    }
+                }
+            }
+        }
+    }
+    met.exactly(&[0, 31], 100);
+}
+
+pub fn random_logs<C: Calls>(seed: u64, times: usize) {
+    let mut random = Random::new(seed);
+    let mut met = Met::default();
+    for _ in 0..times {
+        let most = random.one_of(&[5, 10, 20, 60]);
+        let log = random_log(&mut random, most);
+        both::<C>(&mut random, &log, &mut met);
+    }
+    met.exactly(&[0, 31], times as u64 / 20);
+}
+
+pub fn damaged_logs<C: Calls>(seed: u64, times: usize) {
+    let mut random = Random::new(seed);
+    let mut met = Met::default();
+    for _ in 0..times {
+        let file = damaged_log(&mut random);
+        met.count(&plan::<C>(&mut random, &file, 12, 96));
+        met.count(&least::<C>(&mut random, &file, 13));
+    }
+    met.exactly(&[0, 1, 2, 3, 4, 5, 6, 7, 8, 9, 10, 11, 12, 13], 1);
+}
+
+/// Both calls with room enough.
+fn answers<C: Calls>(log: &Log) -> (u64, Vec<u8>, Vec<u32>, Vec<u64>) {
+    let file = log.bytes();
+    let count = log.requests.len();
+    let (mut marks, mut rows, mut costs) = (vec![9; count], vec![9; 8 * count], vec![9; count + 1]);
+    let (cost, number) = C::plan(&file, &mut marks, &mut rows).unwrap();
+    rows.truncate(4 * number as usize);
+    assert_eq!(C::least(&file, &mut costs), Ok(count as u32 + 1));
+    (cost, marks, rows, costs)
+}
+
+/// The plan is the first of all markings in 01's order, those with the least cost first.
+pub fn all_markings<C: Calls>(seed: u64, times: usize) {
+    let mut random = Random::new(seed);
+    for _ in 0..times {
+        let log = random_log(&mut random, 10);
+        let (cost, marks, rows, _) = answers::<C>(&log);
+        let Plan { cost: other, marks: letters, rows: other_rows } = planner::plan_by_all_markings(&log);
+        assert_eq!((cost, marks), (other, letters.into_iter().map(letter).collect()), "{log:?}");
+        assert_eq!(rows, other_rows.iter().flat_map(|row| row.numbers()).collect::<Vec<_>>(), "{log:?}");
+    }
+}
+
+/// No schedule is cheaper: sets of servers second by second.
+pub fn all_sets<C: Calls>(seed: u64, times: usize) {
+    let mut random = Random::new(seed);
+    for _ in 0..times {
+        let mut header = random_header(&mut random);
+        header.class = random.one_of(&[0, 1, 2, 3, 4, 6]);
+        header.server_count = header.server_count.min(4);
+        header.home %= header.server_count;
+        let count = random.below(9) as usize;
+        let mut requests = random_requests(&mut random, &header, count);
+        requests.retain(|request| request.second <= 300);
+        let log = Log { header, requests };
+        let (cost, _, _, costs) = answers::<C>(&log);
+        assert_eq!(cost, least_by_sets(&log), "{log:?}");
+        let k = random.below(costs.len() as u64) as usize;
+        assert_eq!(costs[k], least_by_sets(&log.cut(k)), "{log:?}");
+    }
+}
+
+/// The same for all logs of at most `most` requests at up to three servers, for the classes with short windows.
+pub fn every_small_log_by_sets<C: Calls>(most: usize) {
+    for class in [0, 2, 3, 6] {
+        let window = Prices::of(class).window() as u32;
+        let mut gaps = vec![1, window.max(1), window + 1];
+        gaps.dedup();
+        for server_count in 1..=3 {
+            let header = Header { class, server_count, home: server_count / 2, id: [0; 16] };
+            for requests in lists_of_gaps(server_count, &gaps, most) {
+                let log = Log { header, requests };
+                assert_eq!(answers::<C>(&log).0, least_by_sets(&log), "{log:?}");
+            }
+        }
+    }
+}
+
+/// No schedule that the checker accepts is cheaper: all lists of rows in order, for two servers and three seconds.
+pub fn all_schedules<C: Calls>() {
+    for (class, home) in [(0, 0), (2, 1), (6, 0)] {
+        let header = Header { class, server_count: 2, home, id: [0; 16] };
+        for requests in lists_of_gaps(2, &[1, 2, 3], 3) {
+            let log = Log { header, requests };
+            if log.last_second() <= 3 {
+                let file = log.bytes();
+                assert_eq!(answers::<C>(&log).0, least_by_schedules(&log, |rows| C::check(&file, rows)), "{log:?}");
+            }
+        }
+    }
+}
+
+/// A long log with outputs just long enough, too short by one and longer; the checker accepts the plan.
+fn long_log<C: Calls>(random: &mut Random, log: &Log, met: &mut Met) {
+    let file = log.bytes();
+    let count = log.requests.len();
+    let rows = 4 * planner::plan(log).rows.len();
+    for (marks, numbers) in [(count, rows), (count - 1, rows - 1), (count + 1, rows - 1), (3_000, 16_384)] {
+        met.count(&plan::<C>(random, &file, marks, numbers));
+    }
+    for costs in [count + 1, count] {
+        met.count(&least::<C>(random, &file, costs));
+    }
+    accepted::<C>(&file, count, rows);
+}
+
+/// The longest logs over 1, 2, 8 and 64 servers.
+pub fn long_logs<C: Calls>(seed: u64, times: usize) {
+    let mut random = Random::new(seed);
+    let mut met = Met::default();
+    for server_count in [1, 2, 8, 64] {
+        for _ in 0..times {
+            let header = Header { server_count, home: 0, ..random_header(&mut random) };
+            let requests = random_requests(&mut random, &header, MOST_REQUESTS);
+            long_log::<C>(&mut random, &Log { header, requests }, &mut met);
+        }
+    }
+    met.exactly(&[0, 31], 3);
+}
+
+/// The bounds of 01: 2,048 requests that end with the last second, over 1, 2 and 64 servers; and one request more.
+pub fn bounds<C: Calls>() {
+    let mut random = Random::new(201);
+    let mut met = Met::default();
+    for (class, server_count) in [(7, 64), (5, 64), (6, 2), (7, 1), (0, 64)] {
+        let header = Header { class, server_count, home: server_count - 1, id: [0xff; 16] };
+        for count in [MOST_REQUESTS, MOST_REQUESTS + 1] {
+            let last = |i| (LAST_SECOND as u64 * i as u64 / count as u64) as u32;
+            let server = |i| (i % server_count as usize) as u16;
+            let log = Log { header, requests: (1..=count).map(|i| Request { second: last(i), server: server(i) }).collect() };
+            assert_eq!(log.last_second(), LAST_SECOND);
+            if count == MOST_REQUESTS {
+                long_log::<C>(&mut random, &log, &mut met);
+            } else {
+                met.count(&plan::<C>(&mut random, &log.bytes(), 3_000, 16_384));
+                met.count(&least::<C>(&mut random, &log.bytes(), 3_000));
+            }
+        }
+        let past = Log { header, requests: vec![Request { second: LAST_SECOND, server: 0 }, Request { second: LAST_SECOND + 1, server: 0 }] };
+        met.count(&plan::<C>(&mut random, &past.bytes(), 9, 99));
+        met.count(&least::<C>(&mut random, &past.bytes(), 9));
+    }
+    met.exactly(&[0, 7, 12, 31], 10);
+}

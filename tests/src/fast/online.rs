@@ -1,0 +1,89 @@
+//! Scan and close on a state in place, going through the copies that stand.
+
+use crate::log::{LAST_SECOND, MOST_REQUESTS};
+use crate::online::{Cache, Served, MOST_HELD};
+use crate::prices::Prices;
+use crate::{refuse, Refusal};
+
+fn unsound(cache: &Cache) -> bool {
+    if cache.class > 7 || cache.server_count < 1 || cache.server_count > 64 || cache.second > LAST_SECOND {
+        return true;
+    }
+    let last = cache.last as usize;
+    if last >= cache.server_count as usize || cache.holders >> last & 1 == 0 || cache.last_use[last] != cache.second {
+        return true;
+    }
+    if cache.holders & !(u64::MAX >> (64 - cache.server_count)) != 0 {
+        return true;
+    }
+    if cache.requests > MOST_REQUESTS as u32 || cache.transfers > cache.requests || cache.held > MOST_HELD {
+        return true;
+    }
+    let window = Prices::of(cache.class).window() as u32;
+    let mut wrong = false;
+    for (server, &used) in cache.last_use.iter().enumerate() {
+        let stands = cache.holders >> server & 1 == 1;
+        wrong |= if stands { used > cache.second || used + window < cache.second && server != last } else { used != 0 };
+    }
+    wrong
+}
+
+pub fn scan(cache: &mut Cache, second: u32, server: u16) -> Result<Served, Refusal> {
+    if server >= cache.server_count as u16 {
+        return refuse(11, 0);
+    }
+    if second == 0 || second > LAST_SECOND {
+        return refuse(12, 0);
+    }
+    if unsound(cache) {
+        return refuse(32, 0);
+    }
+    if cache.closed {
+        return refuse(33, 0);
+    }
+    if cache.requests == MOST_REQUESTS as u32 {
+        return refuse(34, 0);
+    }
+    if second <= cache.second {
+        return refuse(35, 0);
+    }
+    let window = Prices::of(cache.class).window() as u32;
+    let (at, last) = (server as usize, cache.last as usize);
+    let mut held = second - cache.second;
+    let mut others = cache.holders & !(1 << last);
+    while others != 0 {
+        let other = others.trailing_zeros() as usize;
+        others &= others - 1;
+        let end = cache.last_use[other] + window;
+        if end < second {
+            held += end - cache.second;
+            cache.holders &= !(1 << other);
+            cache.last_use[other] = 0;
+        } else {
+            held += second - cache.second;
+        }
+    }
+    let kept = cache.holders >> at & 1 == 1;
+    if !kept {
+        cache.transfers += 1;
+        cache.last_use[last] = second;
+        cache.holders |= 1 << at;
+    }
+    cache.last_use[at] = second;
+    cache.last = server;
+    cache.second = second;
+    cache.requests += 1;
+    cache.held += held;
+    Ok(if kept { Served::Kept } else { Served::Sent(last as u16) })
+}
+
+pub fn close(cache: &mut Cache) -> Result<u64, Refusal> {
+    if unsound(cache) {
+        return refuse(32, 0);
+    }
+    if cache.closed {
+        return refuse(33, 0);
+    }
+    cache.closed = true;
+    Ok(cache.running())
+}

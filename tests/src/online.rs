@@ -1,0 +1,318 @@
+//! 01, 'The live keeper', and the refusals 3 to 5, 11, 12 and 32 to 35.
+
+use crate::log::{check_setup, Request, LAST_SECOND, MOST_REQUESTS};
+use crate::planner::Mark;
+use crate::prices::Prices;
+use crate::{refuse, Refusal};
+
+/// The state, in the library's order of fields.
+#[repr(C)]
+#[derive(Clone, Copy, Debug, PartialEq, Eq)]
+pub struct Cache {
+    pub class: u8,
+    pub server_count: u8,
+    pub last: u16,
+    pub second: u32,
+    pub last_use: [u32; 64],
+    pub holders: u64,
+    pub requests: u32,
+    pub transfers: u32,
+    pub held: u32,
+    pub closed: bool,
+}
+
+/// How a request was served.
+#[derive(Clone, Copy, Debug, PartialEq, Eq)]
+pub enum Served {
+    Kept,
+    Sent(u16),
+}
+
+pub const MOST_HELD: u32 = 256_000_000;
+
+/// The state of a refused start.
+pub const ZEROS: Cache = Cache {
+    class: 0,
+    server_count: 0,
+    last: 0,
+    second: 0,
+    last_use: [0; 64],
+    holders: 0,
+    requests: 0,
+    transfers: 0,
+    held: 0,
+    closed: false,
+};
+
+/// The answer beside the state: given back unchanged by a refusal.
+pub fn start(class: u8, server_count: u8, home: u8) -> (Cache, Result<(), Refusal>) {
+    if let Err(refusal) = check_setup(class, server_count, home) {
+        return (ZEROS, Err(refusal));
+    }
+    let cache = Cache { class, server_count, last: home as u16, holders: 1 << home, ..ZEROS };
+    (cache, Ok(()))
+}
+
+impl Cache {
+    fn has(&self, server: usize) -> bool {
+        self.holders >> server & 1 == 1
+    }
+
+    fn window(&self) -> u64 {
+        Prices::of(self.class).window()
+    }
+
+    /// The last second of a copy that is not the last request's.
+    fn end(&self, server: usize) -> u64 {
+        self.last_use[server] as u64 + self.window()
+    }
+
+    /// 32.
+    pub fn is_unsound(&self) -> bool {
+        if self.class > 7 || self.server_count < 1 || self.server_count > 64 || self.second > LAST_SECOND {
+            return true;
+        }
+        let last = self.last as usize;
+        if last >= self.server_count as usize || !self.has(last) {
+            return true;
+        }
+        for server in 0..64 {
+            let used = self.last_use[server];
+            let wrong = if self.has(server) {
+                server >= self.server_count as usize || used > self.second || (server != last && self.end(server) < self.second as u64)
+            } else {
+                used != 0
+            };
+            if wrong {
+                return true;
+            }
+        }
+        self.last_use[last] != self.second
+            || self.requests > MOST_REQUESTS as u32
+            || self.transfers > self.requests
+            || self.held > MOST_HELD
+    }
+
+    /// 11, 12, then 32 to 35.
+    fn scan_fault(&self, second: u32, server: u16) -> Result<(), Refusal> {
+        if server >= self.server_count as u16 {
+            return refuse(11, 0);
+        }
+        if second == 0 || second > LAST_SECOND {
+            return refuse(12, 0);
+        }
+        if self.is_unsound() {
+            return refuse(32, 0);
+        }
+        if self.closed {
+            return refuse(33, 0);
+        }
+        if self.requests == MOST_REQUESTS as u32 {
+            return refuse(34, 0);
+        }
+        if second <= self.second {
+            return refuse(35, 0);
+        }
+        Ok(())
+    }
+
+    /// The seconds that a server's copy is held from the last request up to second t.
+    fn held_until(&self, server: usize, t: u64) -> u64 {
+        let until = if server == self.last as usize { t } else { t.min(self.end(server)) };
+        until - self.second as u64
+    }
+
+    pub fn scan(&self, second: u32, server: u16) -> (Cache, Result<Served, Refusal>) {
+        if let Err(refusal) = self.scan_fault(second, server) {
+            return (*self, Err(refusal));
+        }
+        let t = second as u64;
+        let at = server as usize;
+        let mut next = *self;
+        for other in 0..64 {
+            if self.has(other) {
+                next.held += self.held_until(other, t) as u32;
+            }
+        }
+        let kept = server == self.last || (self.has(at) && t <= self.end(at));
+        let served = if kept {
+            Served::Kept
+        } else {
+            next.transfers += 1;
+            next.last_use[self.last as usize] = second;
+            Served::Sent(self.last)
+        };
+        next.holders |= 1 << server;
+        next.last_use[at] = second;
+        next.last = server;
+        next.second = second;
+        next.requests += 1;
+        for other in 0..64 {
+            if next.has(other) && next.end(other) < t {
+                next.holders &= !(1 << other);
+                next.last_use[other] = 0;
+            }
+        }
+        (next, Ok(served))
+    }
+
+    pub fn close(&self) -> (Cache, Result<u64, Refusal>) {
+        if self.is_unsound() {
+            return (*self, refuse(32, 0));
+        }
+        if self.closed {
+            return (*self, refuse(33, 0));
+        }
+        (Cache { closed: true, ..*self }, Ok(self.running()))
+    }
+
+    /// The running cost, of a state with a class from 0 to 7.
+    pub fn running(&self) -> u64 {
+        let prices = Prices::of(self.class);
+        prices.hold * self.held as u64 + prices.transfer * self.transfers as u64
+    }
+}
+
+/// What the rules give for some requests, worked out second by second and without the state above.
+#[derive(Debug, PartialEq, Eq)]
+pub struct History {
+    pub marks: Vec<Mark>,
+    pub transfers: u32,
+    pub held: u32,
+    pub standing: u64,
+}
+
+pub fn history(class: u8, home: u8, requests: &[Request]) -> History {
+    let window = Prices::of(class).window();
+    // the use second of each copy that stands
+    let mut uses: Vec<Option<u64>> = vec![None; 64];
+    uses[home as usize] = Some(0);
+    let mut last = home as usize;
+    let mut history = History { marks: vec![], transfers: 0, held: 0, standing: 0 };
+    let mut second = 0u64;
+    for request in requests {
+        let server = request.server as usize;
+        while second < request.second as u64 {
+            // every copy that still stands is held from this second to the next; the others have gone
+            for (other, used) in uses.iter_mut().enumerate() {
+                if let Some(u) = *used {
+                    if other == last || second < u + window {
+                        history.held += 1;
+                    } else {
+                        *used = None;
+                    }
+                }
+            }
+            second += 1;
+        }
+        let kept = server == last || uses[server].is_some();
+        history.marks.push(if kept { Mark::K } else { Mark::S });
+        if !kept {
+            history.transfers += 1;
+            uses[last] = Some(second);
+        }
+        uses[server] = Some(second);
+        last = server;
+    }
+    history.standing = (0..64).filter(|&server| uses[server].is_some()).map(|server| 1 << server).sum();
+    history
+}
+
+#[cfg(test)]
+mod tests {
+    use super::*;
+    use crate::planner;
+    use crate::random::{random_header, random_requests, Random};
+    use crate::log::Log;
+
+    #[test]
+    fn state_and_history_agree_and_stay_within_three_times_the_least() {
+        let mut random = Random::new(6);
+        for _ in 0..3_000 {
+            let mut header = random_header(&mut random);
+            if header.class == 7 {
+                header.class = 6;
+            }
+            let count = random.below(25) as usize;
+            let mut requests = random_requests(&mut random, &header, count);
+            if requests.last().map_or(false, |request| request.second == LAST_SECOND) {
+                requests.pop();
+            }
+            let (mut cache, ready) = start(header.class, header.server_count, header.home);
+            assert_eq!(ready, Ok(()));
+            let mut marks = vec![];
+            for request in &requests {
+                let (next, served) = cache.scan(request.second, request.server);
+                assert!(!next.is_unsound());
+                marks.push(if served.unwrap() == Served::Kept { Mark::K } else { Mark::S });
+                cache = next;
+            }
+            let history = history(header.class, header.home, &requests);
+            let state = History { marks, transfers: cache.transfers, held: cache.held, standing: cache.holders };
+            assert_eq!(state, history, "{header:?} {requests:?}");
+            let least = planner::plan(&Log { header, requests }).cost;
+            assert!(least <= cache.running() && cache.running() <= 3 * least);
+        }
+    }
+
+    #[test]
+    fn refusals() {
+        let (cache, _) = start(0, 2, 0);
+        assert_eq!(start(8, 2, 0), (ZEROS, refuse(3, 0)));
+        assert_eq!(start(0, 0, 0), (ZEROS, refuse(4, 0)));
+        assert_eq!(start(0, 65, 0), (ZEROS, refuse(4, 0)));
+        assert_eq!(start(0, 2, 2), (ZEROS, refuse(5, 0)));
+        assert_eq!(cache.scan(1, 2), (cache, refuse(11, 0)));
+        assert_eq!(cache.scan(0, 1), (cache, refuse(12, 0)));
+        assert_eq!(cache.scan(LAST_SECOND + 1, 1), (cache, refuse(12, 0)));
+        assert_eq!(ZEROS.scan(1, 0), (ZEROS, refuse(11, 0)));
+        assert_eq!(ZEROS.close(), (ZEROS, refuse(32, 0)));
+        let (closed, cost) = cache.close();
+        assert_eq!((closed, cost), (Cache { closed: true, ..cache }, Ok(0)));
+        assert_eq!(closed.scan(1, 1), (closed, refuse(33, 0)));
+        assert_eq!(closed.close(), (closed, refuse(33, 0)));
+        let full = Cache { requests: 2048, ..cache };
+        assert_eq!(full.scan(1, 1), (full, refuse(34, 0)));
+        assert!(full.close().1.is_ok());
+        let (later, _) = cache.scan(5, 1);
+        assert_eq!(later.scan(5, 0), (later, refuse(35, 0)));
+        let wrong = Cache { server_count: 200, ..cache };
+        assert_eq!(wrong.scan(1, 100), (wrong, refuse(32, 0)));
+    }
+
+    #[test]
+    fn each_condition_of_32() {
+        let (first, _) = start(0, 3, 0);
+        let (cache, _) = first.scan(5, 1);
+        assert!(!cache.is_unsound());
+        let with_use = |server: usize, second: u32| {
+            let mut changed = cache;
+            changed.last_use[server] = second;
+            changed
+        };
+        let unsound = [
+            Cache { class: 8, ..cache },
+            Cache { server_count: 0, ..cache },
+            Cache { server_count: 65, ..cache },
+            Cache { second: LAST_SECOND + 1, ..cache },
+            Cache { last: 3, ..cache },
+            Cache { last: 2, ..cache },
+            Cache { holders: cache.holders | 8, ..cache },
+            with_use(0, 6),
+            with_use(1, 4),
+            with_use(2, 1),
+            with_use(63, 1),
+            Cache { second: 16, ..with_use(1, 16) },
+            Cache { requests: 2049, ..cache },
+            Cache { transfers: 2, ..cache },
+            Cache { held: MOST_HELD + 1, ..cache },
+        ];
+        for state in unsound {
+            assert!(state.is_unsound(), "{state:?}");
+        }
+        let sound = [Cache { second: 15, ..with_use(1, 15) }, Cache { requests: 2048, ..cache }, Cache { held: MOST_HELD, ..cache }];
+        for state in sound {
+            assert!(!state.is_unsound(), "{state:?}");
+        }
+    }
+}

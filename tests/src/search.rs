@@ -1,0 +1,162 @@
+//! The least cost by search over all schedules, for small logs.
+
+use crate::checker::{flat, Row};
+use crate::log::{Log, Request};
+use crate::prices::Prices;
+use crate::Refusal;
+
+const NEVER: u64 = u64::MAX;
+
+fn size(set: usize) -> u64 {
+    set.count_ones() as u64
+}
+
+/// The least cost by going through the seconds, for each set of servers the least cost at which just these
+/// hold over the next second. In a second the copy may be sent to any servers from those that hold it.
+pub fn least_by_sets(log: &Log) -> u64 {
+    let prices = Prices::of(log.header.class);
+    let sets = 1usize << log.header.server_count;
+    let mut holding = vec![NEVER; sets];
+    holding[1 << log.header.home] = 0;
+    let Some(last) = log.requests.last() else { return 0 };
+    for t in 0..=last.second {
+        let mut standing = with_transfers(prices, &holding);
+        if let Some(request) = log.requests.iter().find(|request| request.second == t) {
+            for set in 0..sets {
+                if set >> request.server & 1 == 0 {
+                    standing[set] = NEVER;
+                }
+            }
+        }
+        if t == last.second {
+            return *standing.iter().min().unwrap();
+        }
+        holding = held_on(prices, &standing);
+    }
+    unreachable!()
+}
+
+/// From the servers that hold up to a second to those where the copy stands in it.
+fn with_transfers(prices: Prices, holding: &[u64]) -> Vec<u64> {
+    let mut standing = holding.to_vec();
+    for before in 1..holding.len() {
+        if holding[before] == NEVER {
+            continue;
+        }
+        for after in 1..holding.len() {
+            if before & after == before {
+                standing[after] = standing[after].min(holding[before] + prices.transfer * size(after & !before));
+            }
+        }
+    }
+    standing
+}
+
+/// From the servers where the copy stands in a second to those that hold it to the next.
+fn held_on(prices: Prices, standing: &[u64]) -> Vec<u64> {
+    let mut holding = vec![NEVER; standing.len()];
+    for before in 0..standing.len() {
+        if standing[before] == NEVER {
+            continue;
+        }
+        for after in 0..standing.len() {
+            if before & after == after {
+                holding[after] = holding[after].min(standing[before] + prices.hold * size(after));
+            }
+        }
+    }
+    holding
+}
+
+/// The least cost by handing each list of rows that is in order to a checker: for 2 servers and 3 seconds 2^14 schedules.
+pub fn least_by_schedules(log: &Log, mut check: impl FnMut(&[u32]) -> Result<u64, Refusal>) -> u64 {
+    let last = log.last_second();
+    let count = log.header.server_count as u32;
+    let cells: Vec<(u32, u32)> = (0..count).flat_map(|server| (0..last).map(move |second| (server, second))).collect();
+    let mut transfers = Vec::new();
+    for second in 0..=last {
+        for source in 0..count {
+            for target in 0..count {
+                if source != target && last > 0 {
+                    transfers.push(Row::Transfer { source, target, second });
+                }
+            }
+        }
+    }
+    let mut least = NEVER;
+    for held in 0..1u64 << cells.len() {
+        let holds = runs(&cells, held);
+        for sent in 0..1u64 << transfers.len() {
+            let chosen = (0..transfers.len()).filter(|&i| sent >> i & 1 == 1).map(|i| transfers[i]);
+            let rows: Vec<Row> = holds.iter().copied().chain(chosen).collect();
+            if let Ok(cost) = check(&flat(&rows)) {
+                least = least.min(cost);
+            }
+        }
+    }
+    least
+}
+
+/// The holds of a set of servers' seconds: touching ones joined.
+fn runs(cells: &[(u32, u32)], held: u64) -> Vec<Row> {
+    let mut rows: Vec<Row> = Vec::new();
+    for (i, &(at, second)) in cells.iter().enumerate() {
+        if held >> i & 1 == 0 {
+            continue;
+        }
+        match rows.last_mut() {
+            Some(Row::Hold { server, to, .. }) if *server == at && *to == second => *to = second + 1,
+            _ => rows.push(Row::Hold { server: at, from: second, to: second + 1 }),
+        }
+    }
+    rows
+}
+
+/// All lists of at most `most` requests whose gaps are among some.
+pub fn lists_of_gaps(server_count: u8, gaps: &[u32], most: usize) -> Vec<Vec<Request>> {
+    let mut lists = vec![vec![]];
+    let mut start = 0;
+    for _ in 0..most {
+        let end = lists.len();
+        for i in start..end {
+            let list: Vec<Request> = lists[i].clone();
+            let second = list.last().map_or(0, |request: &Request| request.second);
+            for server in 0..server_count as u16 {
+                for gap in gaps {
+                    let mut longer = list.clone();
+                    longer.push(Request { second: second + gap, server });
+                    lists.push(longer);
+                }
+            }
+        }
+        start = end;
+    }
+    lists
+}
+
+#[cfg(test)]
+mod tests {
+    use super::*;
+    use crate::checker;
+    use crate::log::Header;
+
+    #[test]
+    fn number_of_lists() {
+        assert_eq!(lists_of_gaps(2, &[1, 3], 3).len(), 1 + 4 + 16 + 64);
+    }
+
+    #[test]
+    fn both_searches_agree() {
+        for class in 0..8 {
+            for home in 0..2 {
+                let header = Header { class, server_count: 2, home, id: [0; 16] };
+                for requests in lists_of_gaps(2, &[1, 2, 3], 3) {
+                    let log = Log { header, requests };
+                    if log.last_second() <= 2 || (log.last_second() == 3 && class % 6 == 0) {
+                        assert_eq!(least_by_schedules(&log, |rows| checker::check(&log, rows)), least_by_sets(&log), "{log:?}");
+                    }
+                }
+            }
+        }
+    }
+}

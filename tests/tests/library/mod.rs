@@ -1,0 +1,154 @@
+//! The proved library as an implementation of the calls: the static library of `rt staticlib exports`.
+//!
+//! Nothing checks these declarations against crates/exports/src/lib.rt. A slice crosses as a pointer and a length of its own;
+//! declared as `&[T]` it would go wrong where only one register is left, as Rust then puts both on the stack.
+
+use reference::calls::Calls;
+use reference::log::Header;
+use reference::online::{Cache, Served};
+use reference::Refusal;
+
+/// An answer in numbers: a refusal's number and place, or number 0 and up to two values.
+#[repr(C)]
+struct Answer {
+    number: u32,
+    place: u64,
+    value: u64,
+    more: u64,
+}
+
+#[repr(C)]
+struct FileHeader {
+    class: u8,
+    server_count: u8,
+    home: u8,
+    id: [u8; 16],
+}
+
+#[repr(C)]
+struct ReadAnswer {
+    header: FileHeader,
+    answer: Answer,
+}
+
+#[repr(C)]
+struct CacheAnswer {
+    cache: Cache,
+    answer: Answer,
+}
+
+#[link(name = "exports", kind = "static")]
+extern "C" {
+    fn caching_sum(log: *const u8, log_length: usize) -> u32;
+    fn caching_read(
+        log: *const u8,
+        log_length: usize,
+        seconds: *mut u32,
+        seconds_length: usize,
+        servers: *mut u16,
+        servers_length: usize,
+    ) -> ReadAnswer;
+    fn caching_write(
+        header: FileHeader,
+        seconds: *const u32,
+        seconds_length: usize,
+        servers: *const u16,
+        servers_length: usize,
+        log: *mut u8,
+        log_length: usize,
+    ) -> Answer;
+    fn caching_check(log: *const u8, log_length: usize, rows: *const u32, rows_length: usize) -> Answer;
+    fn caching_plan(
+        log: *const u8,
+        log_length: usize,
+        marks: *mut u8,
+        marks_length: usize,
+        rows: *mut u32,
+        rows_length: usize,
+    ) -> Answer;
+    fn caching_least(log: *const u8, log_length: usize, costs: *mut u64, costs_length: usize) -> Answer;
+    fn caching_start(class: u8, server_count: u8, home: u8) -> CacheAnswer;
+    fn caching_scan(cache: Cache, second: u32, server: u16) -> CacheAnswer;
+    fn caching_close(cache: Cache) -> CacheAnswer;
+}
+
+impl Answer {
+    /// The two values, or the refusal. A refusal has values 0.
+    fn outcome(self) -> Result<(u64, u64), Refusal> {
+        if self.number == 0 {
+            assert_eq!(self.place, 0);
+            return Ok((self.value, self.more));
+        }
+        assert_eq!((self.value, self.more), (0, 0));
+        Err(Refusal { number: self.number.try_into().unwrap(), place: self.place })
+    }
+
+    /// The first value, the second being 0.
+    fn value(self) -> Result<u64, Refusal> {
+        let (value, more) = self.outcome()?;
+        assert_eq!(more, 0);
+        Ok(value)
+    }
+}
+
+pub struct Library;
+
+// No exported function requires anything of its arguments. What is handed over are slices of ours, with their lengths.
+impl Calls for Library {
+    fn sum(file: &[u8]) -> u32 {
+        unsafe { caching_sum(file.as_ptr(), file.len()) }
+    }
+
+    fn read(file: &[u8], seconds: &mut [u32], servers: &mut [u16]) -> (Header, Result<u16, Refusal>) {
+        let ReadAnswer { header, answer } = unsafe {
+            caching_read(file.as_ptr(), file.len(), seconds.as_mut_ptr(), seconds.len(), servers.as_mut_ptr(), servers.len())
+        };
+        let header = Header { class: header.class, server_count: header.server_count, home: header.home, id: header.id };
+        (header, answer.value().map(|count| count.try_into().unwrap()))
+    }
+
+    fn write(header: &Header, seconds: &[u32], servers: &[u16], out: &mut [u8]) -> Result<u64, Refusal> {
+        let header = FileHeader { class: header.class, server_count: header.server_count, home: header.home, id: header.id };
+        let answer = unsafe {
+            caching_write(header, seconds.as_ptr(), seconds.len(), servers.as_ptr(), servers.len(), out.as_mut_ptr(), out.len())
+        };
+        answer.value()
+    }
+
+    fn check(file: &[u8], rows: &[u32]) -> Result<u64, Refusal> {
+        unsafe { caching_check(file.as_ptr(), file.len(), rows.as_ptr(), rows.len()) }.value()
+    }
+
+    fn plan(file: &[u8], marks: &mut [u8], rows: &mut [u32]) -> Result<(u64, u32), Refusal> {
+        let answer = unsafe { caching_plan(file.as_ptr(), file.len(), marks.as_mut_ptr(), marks.len(), rows.as_mut_ptr(), rows.len()) };
+        answer.outcome().map(|(cost, number)| (cost, number.try_into().unwrap()))
+    }
+
+    fn least(file: &[u8], costs: &mut [u64]) -> Result<u32, Refusal> {
+        let answer = unsafe { caching_least(file.as_ptr(), file.len(), costs.as_mut_ptr(), costs.len()) };
+        answer.value().map(|count| count.try_into().unwrap())
+    }
+
+    fn start(class: u8, server_count: u8, home: u8) -> (Cache, Result<(), Refusal>) {
+        let CacheAnswer { cache, answer } = unsafe { caching_start(class, server_count, home) };
+        (cache, answer.value().map(|value| assert_eq!(value, 0)))
+    }
+
+    fn scan(cache: &Cache, second: u32, server: u16) -> (Cache, Result<Served, Refusal>) {
+        let CacheAnswer { cache, answer } = unsafe { caching_scan(*cache, second, server) };
+        let served = answer.outcome().map(|(sent, source)| match sent {
+            0 => {
+                assert_eq!(source, 0);
+                Served::Kept
+            }
+            1 => Served::Sent(source.try_into().unwrap()),
+            _ => panic!("neither kept nor sent: {sent}"),
+        });
+        (cache, served)
+    }
+
+    fn close(cache: &Cache) -> (Cache, Result<u64, Refusal>) {
+        let CacheAnswer { cache, answer } = unsafe { caching_close(*cache) };
+        (cache, answer.value())
+    }
+}
