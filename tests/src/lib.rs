@@ -15,6 +15,7 @@ pub mod planner;
 pub mod prices;
 pub mod random;
 pub mod search;
+pub mod sheet;
 
 /// A refusal: 01's number and its place.
 #[derive(Clone, Copy, Debug, PartialEq, Eq, Hash)]
