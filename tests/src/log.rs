@@ -25,7 +25,7 @@ pub struct Log {
 pub const MOST_REQUESTS: usize = 2048;
 pub const LAST_SECOND: u32 = 4_000_000;
 
-/// Starts at 0; for each byte except bytes 20 to 23 it becomes 31 × sum + byte, modulo 2 to the 32.
+/// From 0, byte by byte, times 31 plus the byte, in 32 bits; the four bytes of the sum itself are left out.
 pub fn sum(file: &[u8]) -> u32 {
     let mut sum: u64 = 0;
     for (place, byte) in file.iter().enumerate() {

@@ -1,4 +1,4 @@
--- 01's worked weeks A to I, as one table, proved as a whole from the definitions.
+-- 01's worked weeks A to I: one table, and one proof of all of it by computing the definitions.
 use mathlib.Core.Bool.{true}
 use mathlib.Core.List.{List, [], _∷_, _++_}
 use mathlib.Core.Path.{_≡_, refl}

@@ -13,7 +13,7 @@ use Rattle.base.specs.Bytes.{byte}
 use Rattle.log.specs.Fields.{version, class-of, server-count, home-of, request-count, requests-offset, id-offset, total-length, written-sum, length-for, seconds-of, servers-of}
 use Rattle.log.specs.Sum.{sum-of}
 
--- 3 class above 7; 4 server count not 1 to 64; 5 home not below the count
+-- 3 asks for a class up to 7, 4 for 1 to 64 servers, 5 for a home among them
 unfoldable pub setup-conditions : ℕ → ℕ → ℕ → List Condition
 setup-conditions class′ count home =
     refuse 3 0 (ltb 7 class′) ∷ refuse 4 0 (either (eqb count 0) (ltb 64 count)) ∷ refuse 5 0 (leb count home) ∷ []
@@ -42,7 +42,7 @@ unfoldable pub before : List ℕ → ℕ → ℕ
 before seconds zero = 0
 before seconds (suc i) = getD seconds i 0
 
--- 11 server not below the count; 12 second 0 or above 4,000,000; 13 not later than the one before
+-- 11 asks for a server that there is, 12 for a second from 1 to 4,000,000, 13 for a later one than the request before
 abbrev pub request-check : ℕ → ℕ → ℕ → ℕ → ℕ → List Condition
 request-check count server second earlier place =
     refuse 11 place (leb count server)

@@ -3,7 +3,7 @@ use mathlib.Core.List.{List, [], _∷_, _++_}
 use Prim.Native.Nat.{ℕ, _+_, _*_, _%_, _^_}
 use lib.ListN.{take, drop}
 
--- for each byte the sum becomes 31 × sum + byte, modulo 2 to the 32
+-- a byte takes the sum s to 31·s + byte in 32 bits
 unfoldable pub sum-from : ℕ → List ℕ → ℕ
 sum-from s [] = s
 sum-from s (b ∷ bs) = sum-from ((31 * s + b) % 2 ^ 32) bs

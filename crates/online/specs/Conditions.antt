@@ -28,8 +28,8 @@ server-faults c y =
 unfoldable pub server-broken : Cache → ℕ → Bool
 server-broken c y = any-of (server-faults c y)
 
--- what can be wrong with a state: class, count or last second out of range; last server not below the count, or not in the word; its last
--- use not the last second; requests above 2,048, transfers above requests, held above 256,000,000; a server at fault
+-- what can be wrong with a state: its class, its count or its second is none that there is; the last server is none of the count's, has no
+-- copy, or was not used at the last second; more than 2,048 requests, more transfers than requests, more than 256,000,000 held; a server at fault
 abbrev pub faults : Cache → List Bool
 faults c =
     ltb 7 (c .«class»)
@@ -48,7 +48,7 @@ faults c =
 unfoldable pub broken : Cache → Bool
 broken c = any-of (faults c)
 
--- a scan: 11 server not below the count; 12 second 0 or above 4,000,000; 32; 33 closed; 34 already 2,048 requests; 35 not later than the last
+-- a scan: 11 and 12 for its server and second; 32; 33 closed; 34 no room for one more request; 35 a second that is not later
 unfoldable pub scan-conditions : Cache → ℕ → ℕ → List Condition
 scan-conditions c second server =
     refuse 11 0 (leb (c .«server_count») server)
