@@ -74,8 +74,8 @@ fn check_requests(server_count: u8, requests: &[Request]) -> Result<(), Refusal>
     Ok(())
 }
 
-/// The log in a file, or the first of 1 to 13 that holds.
-pub fn read(file: &[u8]) -> Result<Log, Refusal> {
+/// The header and the number of requests, or the first of 1 to 10 that holds, by a way to take the sum.
+pub fn header_of(file: &[u8], sum: impl Fn(&[u8]) -> u32) -> Result<(Header, usize), Refusal> {
     if file.len() < 40 {
         return refuse(1, 0);
     }
@@ -101,6 +101,12 @@ pub fn read(file: &[u8]) -> Result<Log, Refusal> {
     if number32(file, 20) != sum(file) {
         return refuse(10, 0);
     }
+    Ok((header, count))
+}
+
+/// The log in a file, or the first of 1 to 13 that holds.
+pub fn read(file: &[u8]) -> Result<Log, Refusal> {
+    let (header, count) = header_of(file, sum)?;
     let mut requests = Vec::new();
     for i in 0..count {
         let at = 40 + 6 * i;

@@ -93,15 +93,15 @@ impl Cache {
             || self.held > MOST_HELD
     }
 
-    /// 11, 12, then 32 to 35.
-    fn scan_fault(&self, second: u32, server: u16) -> Result<(), Refusal> {
+    /// 11, 12, then 32 to 35, by a way to tell an unsound state.
+    pub fn scan_fault(&self, second: u32, server: u16, unsound: impl Fn(&Cache) -> bool) -> Result<(), Refusal> {
         if server >= self.server_count as u16 {
             return refuse(11, 0);
         }
         if second == 0 || second > LAST_SECOND {
             return refuse(12, 0);
         }
-        if self.is_unsound() {
+        if unsound(self) {
             return refuse(32, 0);
         }
         if self.closed {
@@ -123,7 +123,7 @@ impl Cache {
     }
 
     pub fn scan(&self, second: u32, server: u16) -> (Cache, Result<Served, Refusal>) {
-        if let Err(refusal) = self.scan_fault(second, server) {
+        if let Err(refusal) = self.scan_fault(second, server, Cache::is_unsound) {
             return (*self, Err(refusal));
         }
         let t = second as u64;

@@ -1,6 +1,6 @@
 //! Reader, writer and sum in one pass over the bytes, without memory of their own.
 
-use crate::log::{check_setup, Header, Request, LAST_SECOND, MOST_REQUESTS};
+use crate::log::{check_setup, header_of, Header, Request, LAST_SECOND, MOST_REQUESTS};
 use crate::{refuse, Refusal};
 
 /// The sum over some bytes, four at a time.
@@ -26,48 +26,9 @@ pub fn sum(file: &[u8]) -> u32 {
     sum_from(front, &file[file.len().min(24)..])
 }
 
-fn number16(file: &[u8], at: usize) -> u16 {
-    u16::from_le_bytes([file[at], file[at + 1]])
-}
-
-fn number32(file: &[u8], at: usize) -> u32 {
-    u32::from_le_bytes([file[at], file[at + 1], file[at + 2], file[at + 3]])
-}
-
-fn header_of(file: &[u8]) -> Result<(Header, usize), Refusal> {
-    if file.len() < 40 {
-        return refuse(1, 0);
-    }
-    if number16(file, 0) != 1 {
-        return refuse(2, 0);
-    }
-    let mut id = [0; 16];
-    id.copy_from_slice(&file[24..40]);
-    let header = Header { class: file[2], server_count: file[3], home: file[4], id };
-    check_setup(header.class, header.server_count, header.home)?;
-    if file[5] != 0 {
-        return refuse(6, 0);
-    }
-    let count = number16(file, 6) as usize;
-    if count > MOST_REQUESTS {
-        return refuse(7, 0);
-    }
-    let total = number32(file, 16) as usize;
-    if number32(file, 8) != 40 || number32(file, 12) != 24 || total != 40 + 6 * count {
-        return refuse(8, 0);
-    }
-    if file.len() != total {
-        return refuse(9, 0);
-    }
-    if number32(file, 20) != sum(file) {
-        return refuse(10, 0);
-    }
-    Ok((header, count))
-}
-
 /// The header and all requests, 11 to 13 checked on the way.
 pub(super) fn accepted(file: &[u8], mut each: impl FnMut(usize, Request)) -> Result<(Header, usize), Refusal> {
-    let (header, count) = header_of(file)?;
+    let (header, count) = header_of(file, sum)?;
     let mut earlier = 0;
     for (i, six) in file[40..].chunks_exact(6).enumerate() {
         let second = u32::from_le_bytes([six[0], six[1], six[2], six[3]]);

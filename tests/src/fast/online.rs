@@ -29,24 +29,7 @@ fn unsound(cache: &Cache) -> bool {
 }
 
 pub fn scan(cache: &mut Cache, second: u32, server: u16) -> Result<Served, Refusal> {
-    if server >= cache.server_count as u16 {
-        return refuse(11, 0);
-    }
-    if second == 0 || second > LAST_SECOND {
-        return refuse(12, 0);
-    }
-    if unsound(cache) {
-        return refuse(32, 0);
-    }
-    if cache.closed {
-        return refuse(33, 0);
-    }
-    if cache.requests == MOST_REQUESTS as u32 {
-        return refuse(34, 0);
-    }
-    if second <= cache.second {
-        return refuse(35, 0);
-    }
+    cache.scan_fault(second, server, unsound)?;
     let window = Prices::of(cache.class).window() as u32;
     let (at, last) = (server as usize, cache.last as usize);
     let mut held = second - cache.second;
