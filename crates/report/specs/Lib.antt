@@ -6,6 +6,7 @@ pub mod PageLaws
 pub mod Text
 pub mod TextLaws
 pub mod Live
+pub mod Replies
 pub mod LiveLaws
 pub mod Answers
 pub mod AnswerLaws

@@ -6,14 +6,9 @@ use Rattle.base.specs.Choice.{pick}
 use Rattle.base.specs.Lists.{build}
 use Rattle.log.specs.Fields.{class-of, server-count, home-of, request-count, seconds-of, servers-of}
 use Rattle.online.specs.declared.Cache.{Cache}
-use Rattle.online.specs.declared.ScanOutcome.{ScanOutcome}
-use Rattle.online.specs.declared.ScanOutcome.the-variants as scan′
-use Rattle.online.specs.declared.CloseOutcome.{CloseOutcome}
-use Rattle.online.specs.declared.CloseOutcome.the-variants as close′
 use Rattle.online.specs.Rules.{kept, running}
-use Rattle.online.specs.Answers.{started, scanned, closed-answer}
+use Rattle.online.specs.Answers.{started}
 use Rattle.online.specs.Calls.{Call, scan, run}
-use Rattle.report.specs.declared.live.Turn.{Turn}
 
 -- the first k of some requests, as scan calls
 unfoldable pub scans : List ℕ → List ℕ → ℕ → List Call
@@ -44,22 +39,3 @@ live-marks log = build (request-count log) (live-mark (opened log) (seconds-of l
 -- the running costs of its first requests
 unfoldable pub running-costs : List ℕ → List ℕ
 running-costs log = build (request-count log) (live-cost (opened log) (seconds-of log) (servers-of log))
-
--- ---- what the calls answer
-
--- the letter of a scan's mark; a refused scan has none
-unfoldable pub outcome-letter : ScanOutcome → ℕ
-outcome-letter scan′.Kept = 75
-outcome-letter (scan′.Sent from) = 83
-outcome-letter (scan′.Refused r) = 0
-
--- the cost that a close gives; a refused one gives none
-unfoldable pub outcome-cost : CloseOutcome → ℕ
-outcome-cost (close′.Cost x) = x
-outcome-cost (close′.Refused r) = 0
-
--- a scan and what a close after it would give
-unfoldable pub turn : Cache → ℕ → ℕ → Turn
-turn c second server =
-    let s = scanned c second server in
-    record { cache = s .cache; mark = outcome-letter (s .outcome); cost = outcome-cost (closed-answer (s .cache) .outcome) }

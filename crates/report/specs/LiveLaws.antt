@@ -28,7 +28,8 @@ use Rattle.online.specs.Passed.{Setup}
 use Rattle.online.specs.Sound.{Sound, sound-unbroken}
 use Rattle.online.specs.Reached.{Reached, reached-fresh, reached-run, reached-sound}
 use Rattle.report.specs.declared.live.Turn.{Turn}
-use Rattle.report.specs.Live.{scans, state-after, live-mark, live-cost, opened, outcome-letter, outcome-cost, turn}
+use Rattle.report.specs.Live.{scans, state-after, live-mark, live-cost, opened}
+use Rattle.report.specs.Replies.{outcome-letter, outcome-cost, turn}
 
 -- a request is scanned, and the state after it can be closed
 pub record Goes (c : Cache) (second server : ℕ) : Type 0 where

@@ -6,10 +6,6 @@ use Rattle.base.specs.Refusals.{first, short}
 use Rattle.base.specs.declared.Verdict.{Verdict}
 use Rattle.log.specs.Fields.{request-count, seconds-of, servers-of}
 use Rattle.log.specs.Conditions.{log-conditions}
-use Rattle.log.specs.declared.ReadOutcome.{ReadOutcome}
-use Rattle.log.specs.declared.ReadOutcome.the-variants as read
-use Rattle.planner.specs.declared.Planned.{Planned}
-use Rattle.planner.specs.declared.Planned.the-variants as planned′
 use Rattle.planner.specs.Answers.{marks-of, planned-rows, least-costs}
 use Rattle.report.specs.Live.{live-marks, running-costs}
 use Rattle.report.specs.Text.{Columns, columns, entry-of, sheet-text}
@@ -25,15 +21,3 @@ sheet-of log = sheet-text (entry-of (columns-of log)) (request-count log) (lengt
 -- its conditions: the log's, then 31 for what is lent
 unfoldable pub sheet-verdict : List ℕ → ℕ → Verdict
 sheet-verdict log room = first (log-conditions log ++ (short (length (sheet-of log)) room ∷ []))
-
--- ---- numbers in the answers of the calls that a sheet is made of
-
--- the requests that a reader read; none where it refused
-unfoldable pub requests-read : ReadOutcome → ℕ
-requests-read (read.Requests n) = n
-requests-read (read.Refused r) = 0
-
--- the rows of a plan; none where it was refused
-unfoldable pub rows-planned : Planned → ℕ
-rows-planned (planned′.Plan cost rows) = rows
-rows-planned (planned′.Refused r) = 0

@@ -1,7 +1,7 @@
 -- `report::answer::plan_marks` meets its contract. Assumes nothing.
 use borrow.Author.Needs.{needs}
 use Rattle.report.specs.SheetLaws.{plan-passes}
-use Rattle.report.specs.Sheet.{rows-planned}
+use Rattle.report.specs.Replies.{rows-planned}
 use Rattle.planner.specs.Answers.{plan-verdict, planned}
 use Rattle.base.specs.declared.Verdict.the-variants.{Passed}
 use mathlib.Core.Path.{_≡_, refl, _∙_}

@@ -1,7 +1,7 @@
 -- `report::answer::put_sheet` meets its contract. Assumes nothing.
 use borrow.Author.Needs.{needs}
 use Rattle.report.specs.SheetLaws.{runs-read, sheet-made}
-use Rattle.report.specs.Sheet.{requests-read}
+use Rattle.report.specs.Replies.{requests-read}
 use Rattle.report.specs.Live.{opened}
 use Rattle.report.specs.Alike.{lent-alike}
 use Rattle.online.specs.Answers.{started}

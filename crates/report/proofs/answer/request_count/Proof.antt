@@ -1,7 +1,7 @@
 -- `report::answer::request_count` meets its contract. Assumes nothing.
 use borrow.Author.Needs.{needs}
 use mathlib.Core.Path.{refl}
-use Rattle.report.specs.Sheet.{requests-read}
+use Rattle.report.specs.Replies.{requests-read}
 use Rattle.report.proofs.answer.request_count.Statement.{statement}
 use Rattle.report.proofs.answer.request_count.Tie as tie
 

@@ -1,7 +1,7 @@
 -- `report::answer::row_count` meets its contract. Assumes nothing.
 use borrow.Author.Needs.{needs}
 use mathlib.Core.Path.{refl}
-use Rattle.report.specs.Sheet.{rows-planned}
+use Rattle.report.specs.Replies.{rows-planned}
 use Rattle.report.proofs.answer.row_count.Statement.{statement}
 use Rattle.report.proofs.answer.row_count.Tie as tie
 

@@ -1,6 +1,6 @@
 -- `report::live::amount` meets its contract. Assumes nothing.
 use borrow.Author.Needs.{needs}
-use Rattle.report.specs.Live.{outcome-cost}
+use Rattle.report.specs.Replies.{outcome-cost}
 use Rattle.report.proofs.live.amount.Statement.{statement}
 use Rattle.report.proofs.live.amount.Tie as tie
 

@@ -1,6 +1,6 @@
 -- `report::live::letter` meets its contract. Assumes nothing.
 use borrow.Author.Needs.{needs}
-use Rattle.report.specs.Live.{outcome-letter}
+use Rattle.report.specs.Replies.{outcome-letter}
 use Rattle.report.proofs.live.letter.Statement.{statement}
 use Rattle.report.proofs.live.letter.Tie as tie
 

@@ -1,6 +1,6 @@
 -- `report::live::step` meets its contract. Assumes nothing.
 use borrow.Author.Needs.{needs}
-use Rattle.report.specs.Live.{turn}
+use Rattle.report.specs.Replies.{turn}
 use Rattle.report.proofs.live.step.Statement.{statement}
 use Rattle.report.proofs.live.step.Tie as tie
 

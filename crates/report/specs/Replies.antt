@@ -1,0 +1,40 @@
+-- What the code takes from the answers of the calls that a sheet is made of. Assumes nothing.
+use Prim.Native.Nat.{ℕ}
+use Rattle.log.specs.declared.ReadOutcome.{ReadOutcome}
+use Rattle.log.specs.declared.ReadOutcome.the-variants as read
+use Rattle.planner.specs.declared.Planned.{Planned}
+use Rattle.planner.specs.declared.Planned.the-variants as planned′
+use Rattle.online.specs.declared.Cache.{Cache}
+use Rattle.online.specs.declared.ScanOutcome.{ScanOutcome}
+use Rattle.online.specs.declared.ScanOutcome.the-variants as scan′
+use Rattle.online.specs.declared.CloseOutcome.{CloseOutcome}
+use Rattle.online.specs.declared.CloseOutcome.the-variants as close′
+use Rattle.online.specs.Answers.{scanned, closed-answer}
+use Rattle.report.specs.declared.live.Turn.{Turn}
+
+-- the requests that a reader read; none where it refused
+unfoldable pub requests-read : ReadOutcome → ℕ
+requests-read (read.Requests n) = n
+requests-read (read.Refused r) = 0
+
+-- the rows of a plan; none where it was refused
+unfoldable pub rows-planned : Planned → ℕ
+rows-planned (planned′.Plan cost rows) = rows
+rows-planned (planned′.Refused r) = 0
+
+-- the letter of a scan's mark; a refused scan has none
+unfoldable pub outcome-letter : ScanOutcome → ℕ
+outcome-letter scan′.Kept = 75
+outcome-letter (scan′.Sent from) = 83
+outcome-letter (scan′.Refused r) = 0
+
+-- the cost that a close gives; a refused one gives none
+unfoldable pub outcome-cost : CloseOutcome → ℕ
+outcome-cost (close′.Cost x) = x
+outcome-cost (close′.Refused r) = 0
+
+-- a scan and what a close after it would give
+unfoldable pub turn : Cache → ℕ → ℕ → Turn
+turn c second server =
+    let s = scanned c second server in
+    record { cache = s .cache; mark = outcome-letter (s .outcome); cost = outcome-cost (closed-answer (s .cache) .outcome) }
