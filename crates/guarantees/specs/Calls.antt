@@ -24,9 +24,13 @@ use Rattle.log.specs.AcceptedLaws.{seconds-length, servers-length}
 use Rattle.log.specs.EncodeLaws.{Sixteen, encode-length}
 use Rattle.checker.specs.Answers.{check-conditions, check-verdict-of}
 use Rattle.planner.specs.Answers.{marks-of, rows-of-plan, plan-verdict, least-costs, least-verdict}
+use Rattle.report.specs.Answers.{room-verdict}
+use Rattle.report.specs.Sheet.{sheet-of, sheet-verdict}
+use Rattle.report.specs.Text.{refusal-text}
 use Rattle.online.specs.declared.Cache.{Cache}
 use Rattle.online.specs.Conditions.{scan-conditions, close-conditions}
-use Rattle.online.specs.Answers.{start-verdict, scan-verdict, close-verdict}
+use Rattle.online.specs.Rules.{zeros}
+use Rattle.online.specs.Answers.{start-verdict, scan-verdict, close-verdict, started-by, started, scanned-by, scanned, closed-by, closed-answer}
 
 -- a verdict is that of a list of conditions
 pub record Decided (cs : List Condition) (v : Verdict) : Type 0 where
@@ -144,3 +148,43 @@ scan-decided c second server = decided _
 pub close-decided : (c : Cache) → Decided (close-conditions c) (close-verdict c)
 unfolding close-verdict
 close-decided c = decided _
+
+-- the sheet of a log
+pub sheet-decided : (log : List ℕ) (text : ℕ) → Decided (log-conditions log ++ (short (length (sheet-of log)) text ∷ [])) (sheet-verdict log text)
+unfolding sheet-verdict
+sheet-decided log text = decided _
+
+pub sheet-left : (log text : List ℕ) → Left (sheet-verdict log (length text)) (sheet-of log) text
+unfolding sheet-verdict
+sheet-left log text =
+    left (sheet-verdict log (length text)) (sheet-of log) text (λ e. ltb-false (length text) (length (sheet-of log)) (room e 0))
+  where
+    outputs : List Condition
+    outputs = short (length (sheet-of log)) (length text) ∷ []
+
+    room : sheet-verdict log (length text) ≡ Passed → (i : ℕ) → nth outputs i .holds ≡ false
+    room e = first-passed outputs .0 (otherwise-passed (first (log-conditions log)) (first outputs) (sym (first-append (log-conditions log) outputs) ∙ e) .1)
+
+-- the line of a refusal
+pub line-decided : (r : Refusal) (text : ℕ) → Decided (short (length (refusal-text r)) text ∷ []) (room-verdict (refusal-text r) text)
+unfolding room-verdict
+line-decided r text = decided _
+
+pub line-left : (r : Refusal) (text : List ℕ) → Left (room-verdict (refusal-text r) (length text)) (refusal-text r) text
+unfolding room-verdict
+line-left r text =
+    left (room-verdict (refusal-text r) (length text)) (refusal-text r) text
+    (λ e. ltb-false (length text) (length (refusal-text r)) (first-passed (short (length (refusal-text r)) (length text) ∷ []) .0 e 0))
+
+-- a refused scan or close gives back the state as it was, a refused start one of zeros
+pub scan-unchanged : (c : Cache) (second server : ℕ) (r : Refusal) → scan-verdict c second server ≡ Refused r → scanned c second server .cache ≡ c
+unfolding scanned scanned-by
+scan-unchanged c second server r e = ap (λ (v : Verdict). scanned-by v c second server .cache) e
+
+pub close-unchanged : (c : Cache) (r : Refusal) → close-verdict c ≡ Refused r → closed-answer c .cache ≡ c
+unfolding closed-answer closed-by
+close-unchanged c r e = ap (λ (v : Verdict). closed-by v c .cache) e
+
+pub start-zeros : (class′ count home : ℕ) (r : Refusal) → start-verdict class′ count home ≡ Refused r → started class′ count home .cache ≡ zeros
+unfolding started started-by
+start-zeros class′ count home r e = ap (λ (v : Verdict). started-by v class′ count home .cache) e

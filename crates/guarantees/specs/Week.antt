@@ -15,9 +15,12 @@ use Rattle.log.specs.Conditions.{verdict-of}
 use Rattle.log.specs.Contents.{contents, encode}
 use Rattle.model.specs.Requests.{Requests, requests}
 use Rattle.model.specs.RowForm.{flat, rows-of}
-use Rattle.model.specs.Marking.{Mark, K, S}
-use Rattle.model.specs.Plan.{plan, plan-cost, plan-rows}
-use Rattle.model.specs.Checking.{check-verdict, check-cost}
+use Rattle.model.specs.Sums.{total}
+use Rattle.model.specs.Marking.{Mark, K, S, cost}
+use Rattle.model.specs.Plan.{markings, plan, plan-cost, plan-rows}
+use Rattle.checker.specs.declared.Checked.{Checked}
+use Rattle.checker.specs.declared.Checked.the-variants as answer
+use Rattle.checker.specs.Answers.{check-answer}
 use Rattle.online.specs.declared.Cache.{Cache}
 use Rattle.online.specs.declared.ScanOutcome.{ScanOutcome}
 use Rattle.online.specs.declared.ScanOutcome.the-variants as scan
@@ -32,13 +35,15 @@ pub record Given : Type 0 where
   pub seconds : List ℕ
   pub servers : List ℕ
 
--- a planned week: least and running cost after each request, the plan's and the online cache's marks, the plan's rows as numbers
--- a checked list of rows: the verdict's number and place, 0 and 0 for none, and the cost then
+-- a planned week: least and running cost before any request and after each, the plan's and the online cache's marks, the plan's rows as numbers
+-- a tied week: how many legal markings have a cost
+-- a checked list of rows: number and place of a refusal and 0, or 0, 0 and the cost
 -- a log: the verdict's number and place
 pub data Week : Type 0 where
   planned : Given → (least running marks live rows : List ℕ) → Week
   checked : Given → (rows : List ℕ) → (number place cost : ℕ) → Week
   logged : Given → (number place : ℕ) → Week
+  tied : Given → (cost count : ℕ) → Week
 
 -- two lists of numbers are equal
 unfoldable pub same : List ℕ → List ℕ → Bool
@@ -51,6 +56,11 @@ same (x ∷ xs) (y ∷ ys) = both (eqb x y) (same xs ys)
 unfoldable pub as-numbers : Verdict → List ℕ
 as-numbers Passed = 0 ∷ 0 ∷ []
 as-numbers (Refused r) = r .number ∷ r .place ∷ []
+
+-- a checker's answer as numbers
+unfoldable pub answer-numbers : Checked → List ℕ
+answer-numbers (answer.Cost c) = 0 ∷ 0 ∷ c ∷ []
+answer-numbers (answer.Refused r) = r .number ∷ r .place ∷ 0 ∷ []
 
 -- the requests of a week
 unfoldable pub requests-given : Given → Requests
@@ -66,9 +76,9 @@ live-letter scan.Kept = 75
 live-letter (scan.Sent x) = 83
 live-letter (scan.Refused r) = 0
 
--- the least cost of the first 1, 2, .. requests
+-- the least cost of the first 0, 1, 2, .. requests
 unfoldable pub least-so-far : Given → List ℕ
-least-so-far g = build (length (g .seconds)) (λ k. plan-cost (prices-of (g .«class»)) (requests-given g) (suc k))
+least-so-far g = build (suc (length (g .seconds))) (λ k. plan-cost (prices-of (g .«class»)) (requests-given g) k)
 
 -- the marks of the plan over the whole week
 unfoldable pub plan-letters : Given → List ℕ
@@ -80,11 +90,11 @@ plan-letters g =
 unfoldable pub plan-numbers : Given → List ℕ
 plan-numbers g = flat (plan-rows (prices-of (g .«class»)) (requests-given g) (g .count) (length (g .seconds)))
 
--- the running cost, and the mark, of each request served from a state
+-- the running cost of a state and after each request served from it; the mark of each request
 unfoldable pub costs-from : Cache → List ℕ → List ℕ → List ℕ
-costs-from c (t ∷ ts) (x ∷ xs) = let a = scanned c t x in running (a .cache) ∷ costs-from (a .cache) ts xs
-costs-from c [] xs = []
-costs-from c (t ∷ ts) [] = []
+costs-from c (t ∷ ts) (x ∷ xs) = running c ∷ costs-from (scanned c t x .cache) ts xs
+costs-from c [] xs = running c ∷ []
+costs-from c (t ∷ ts) [] = running c ∷ []
 
 unfoldable pub letters-from : Cache → List ℕ → List ℕ → List ℕ
 letters-from c (t ∷ ts) (x ∷ xs) = let a = scanned c t x in live-letter (a .outcome) ∷ letters-from (a .cache) ts xs
@@ -102,17 +112,18 @@ log-of g =
 
 -- what the definitions say of a week is what 01 says
 unfoldable pub right : Week → Bool
-right (planned g least cost marks live rows) =
+right (planned g least costs marks live rows) =
     both (same (least-so-far g) least)
-    (both (same (costs-from (opened g) (g .seconds) (g .servers)) cost)
+    (both (same (costs-from (opened g) (g .seconds) (g .servers)) costs)
     (both (same (plan-letters g) marks)
     (both (same (letters-from (opened g) (g .seconds) (g .servers)) live)
     (same (plan-numbers g) rows))))
-right (checked g rows number place cost) =
-    let v = check-verdict (g .count) (requests-given g) (length (g .seconds)) rows in
-    both (same (as-numbers v) (number ∷ place ∷ []))
-    (eqb (check-cost (prices-of (g .«class»)) rows) cost)
+right (checked g rows number place c) = same (answer-numbers (check-answer (log-of g) rows)) (number ∷ place ∷ c ∷ [])
 right (logged g number place) = same (as-numbers (verdict-of (log-of g))) (number ∷ place ∷ [])
+right (tied g c n) =
+    let q = requests-given g in
+    let k = length (g .seconds) in
+    eqb (total (λ m. pick (eqb (cost (prices-of (g .«class»)) q m k) c) 1 0) (markings q k)) n
 
 -- every week of a table is right
 unfoldable pub all-right : List Week → Bool

@@ -18,12 +18,14 @@ use Rattle.model.specs.Standing.{reach, arrive, through, reached, rounds, stand
 use Rattle.model.specs.RowForm.{numbers, flat, row-of, row-at, rows-upto, rows-of, fits, earlier, follows}
 use Rattle.model.specs.Marking.{keeps, some?, legal, gap, begin, after, spans, any, covered, holds, own, cost, begins-run, run-end, hold-rows, all-holds, transfers, source, rows-from, rows}
 use Rattle.model.specs.Plan.{put-mark, markings, first-least, least-of, plan, plan-cost, plan-rows}
-use Rattle.model.specs.Checking.{row-count, misfits, misplaced, row-conditions, backed, copy-condition, serve-condition, schedule-conditions, check-verdict, check-cost}
+use Rattle.model.specs.Checking.{row-count, misfits, misplaced, row-conditions, backed, copy-condition, serve-condition, schedule-conditions, check-cost}
+use Rattle.model.specs.LogRequests.{requests-in, prices-in}
+use Rattle.checker.specs.Answers.{check-conditions, check-verdict-of, checked as checked-by, check-answer}
 use Rattle.online.specs.Servers.{across, set-of, some-server}
 use Rattle.online.specs.Rules.{class-prices, window-of, copy-at, use-at, fresh, lasts, kept, uses, stands as stands-after, next-use, seconds, accept, running}
 use Rattle.online.specs.Conditions.{any-of, server-broken, broken, scan-conditions}
 use Rattle.online.specs.Answers.{start-verdict, started-by, started, scan-verdict, scanned-by, scanned, mark-outcome}
-use Rattle.guarantees.specs.Week.{Given, Week, planned, checked, logged, same, as-numbers, requests-given, letter, live-letter, least-so-far, plan-letters, plan-numbers, costs-from, letters-from, opened, log-of, right, all-right}
+use Rattle.guarantees.specs.Week.{Given, Week, planned, checked, logged, tied, same, as-numbers, answer-numbers, requests-given, letter, live-letter, least-so-far, plan-letters, plan-numbers, costs-from, letters-from, opened, log-of, right, all-right}
 
 -- K and S
 abbrev k : ℕ
@@ -35,25 +37,26 @@ s = 83
 abbrev given : ℕ → ℕ → List ℕ → List ℕ → Given
 given class′ count ts xs = record { «class» = class′; count = count; home = 0; seconds = ts; servers = xs }
 
--- A no requests; B 002's example times ten; C; D; E; F class 6
+-- A no requests; B 002's example times ten; C, and that two other markings cost the same; D; E; F class 6
 -- G a cycle with no copy behind it, and with one; H the last second; I equal seconds
 unfoldable pub weeks : List Week
 weeks =
-    planned (given 0 2 [] []) [] [] [] [] []
+    planned (given 0 2 [] []) (0 ∷ []) (0 ∷ []) [] [] []
     ∷ planned (given 0 4 (5 ∷ 8 ∷ 11 ∷ 14 ∷ 26 ∷ 32 ∷ 40 ∷ []) (1 ∷ 2 ∷ 3 ∷ 0 ∷ 1 ∷ 1 ∷ 2 ∷ []))
-    (15 ∷ 28 ∷ 41 ∷ 44 ∷ 65 ∷ 71 ∷ 89 ∷ []) (15 ∷ 31 ∷ 50 ∷ 62 ∷ 102 ∷ 114 ∷ 136 ∷ [])
+    (0 ∷ 15 ∷ 28 ∷ 41 ∷ 44 ∷ 65 ∷ 71 ∷ 89 ∷ []) (0 ∷ 15 ∷ 31 ∷ 50 ∷ 62 ∷ 102 ∷ 114 ∷ 136 ∷ [])
     (s ∷ s ∷ s ∷ k ∷ k ∷ k ∷ s ∷ []) (s ∷ s ∷ s ∷ k ∷ s ∷ k ∷ s ∷ [])
     (0 ∷ 0 ∷ 0 ∷ 14 ∷ 0 ∷ 1 ∷ 5 ∷ 40 ∷ 1 ∷ 0 ∷ 1 ∷ 5 ∷ 1 ∷ 0 ∷ 2 ∷ 8 ∷ 1 ∷ 0 ∷ 3 ∷ 11 ∷ 1 ∷ 1 ∷ 2 ∷ 40 ∷ [])
     ∷ planned (given 0 3 (1 ∷ 2 ∷ 11 ∷ 12 ∷ []) (1 ∷ 2 ∷ 1 ∷ 0 ∷ []))
-    (11 ∷ 22 ∷ 31 ∷ 42 ∷ []) (11 ∷ 23 ∷ 50 ∷ 62 ∷ []) (s ∷ s ∷ k ∷ k ∷ []) (s ∷ s ∷ k ∷ s ∷ [])
+    (0 ∷ 11 ∷ 22 ∷ 31 ∷ 42 ∷ []) (0 ∷ 11 ∷ 23 ∷ 50 ∷ 62 ∷ []) (s ∷ s ∷ k ∷ k ∷ []) (s ∷ s ∷ k ∷ s ∷ [])
     (0 ∷ 0 ∷ 0 ∷ 12 ∷ 0 ∷ 1 ∷ 1 ∷ 11 ∷ 1 ∷ 0 ∷ 1 ∷ 1 ∷ 1 ∷ 0 ∷ 2 ∷ 2 ∷ [])
-    ∷ planned (given 0 2 (1 ∷ 11 ∷ []) (1 ∷ 0 ∷ [])) (11 ∷ 21 ∷ []) (11 ∷ 31 ∷ []) (s ∷ k ∷ []) (s ∷ k ∷ [])
+    ∷ tied (given 0 3 (1 ∷ 2 ∷ 11 ∷ 12 ∷ []) (1 ∷ 2 ∷ 1 ∷ 0 ∷ [])) 42 3
+    ∷ planned (given 0 2 (1 ∷ 11 ∷ []) (1 ∷ 0 ∷ [])) (0 ∷ 11 ∷ 21 ∷ []) (0 ∷ 11 ∷ 31 ∷ []) (s ∷ k ∷ []) (s ∷ k ∷ [])
     (0 ∷ 0 ∷ 0 ∷ 11 ∷ 1 ∷ 0 ∷ 1 ∷ 1 ∷ [])
-    ∷ planned (given 0 2 (1 ∷ 12 ∷ []) (1 ∷ 0 ∷ [])) (11 ∷ 22 ∷ []) (11 ∷ 42 ∷ []) (s ∷ k ∷ []) (s ∷ s ∷ [])
+    ∷ planned (given 0 2 (1 ∷ 12 ∷ []) (1 ∷ 0 ∷ [])) (0 ∷ 11 ∷ 22 ∷ []) (0 ∷ 11 ∷ 42 ∷ []) (s ∷ k ∷ []) (s ∷ s ∷ [])
     (0 ∷ 0 ∷ 0 ∷ 12 ∷ 1 ∷ 0 ∷ 1 ∷ 1 ∷ [])
-    ∷ planned (given 6 2 (1 ∷ 2 ∷ []) (1 ∷ 0 ∷ [])) (12 ∷ 19 ∷ []) (12 ∷ 24 ∷ []) (s ∷ k ∷ []) (s ∷ s ∷ [])
+    ∷ planned (given 6 2 (1 ∷ 2 ∷ []) (1 ∷ 0 ∷ [])) (0 ∷ 12 ∷ 19 ∷ []) (0 ∷ 12 ∷ 24 ∷ []) (s ∷ k ∷ []) (s ∷ s ∷ [])
     (0 ∷ 0 ∷ 0 ∷ 2 ∷ 1 ∷ 0 ∷ 1 ∷ 1 ∷ [])
-    ∷ checked (given 0 2 (1 ∷ []) (0 ∷ [])) (1 ∷ 0 ∷ 1 ∷ 1 ∷ 1 ∷ 1 ∷ 0 ∷ 1 ∷ []) 17 1 20
+    ∷ checked (given 0 2 (1 ∷ []) (0 ∷ [])) (1 ∷ 0 ∷ 1 ∷ 1 ∷ 1 ∷ 1 ∷ 0 ∷ 1 ∷ []) 17 1 0
     ∷ checked (given 0 2 (1 ∷ []) (0 ∷ [])) (0 ∷ 0 ∷ 0 ∷ 1 ∷ 1 ∷ 0 ∷ 1 ∷ 1 ∷ 1 ∷ 1 ∷ 0 ∷ 1 ∷ []) 0 0 21
     ∷ logged (given 0 2 (4000000 ∷ []) (0 ∷ [])) 0 0
     ∷ logged (given 0 2 (4000001 ∷ []) (0 ∷ [])) 12 1
@@ -63,11 +66,11 @@ weeks =
 -- a week of our own, where 002's table would take K at the last request for a cost that 01's marks do not allow
 unfoldable pub own-weeks : List Week
 own-weeks =
-    planned (given 0 2 (1 ∷ 12 ∷ 13 ∷ []) (1 ∷ 1 ∷ 0 ∷ [])) (11 ∷ 22 ∷ 33 ∷ []) (11 ∷ 32 ∷ 43 ∷ []) (s ∷ k ∷ s ∷ []) (s ∷ k ∷ s ∷ [])
+    planned (given 0 2 (1 ∷ 12 ∷ 13 ∷ []) (1 ∷ 1 ∷ 0 ∷ [])) (0 ∷ 11 ∷ 22 ∷ 33 ∷ []) (0 ∷ 11 ∷ 32 ∷ 43 ∷ []) (s ∷ k ∷ s ∷ []) (s ∷ k ∷ s ∷ [])
     (0 ∷ 0 ∷ 0 ∷ 1 ∷ 0 ∷ 1 ∷ 1 ∷ 13 ∷ 1 ∷ 0 ∷ 1 ∷ 1 ∷ 1 ∷ 1 ∷ 0 ∷ 13 ∷ [])
     ∷ []
 
 -- every line of the table holds
 pub weeks-right : all-right (weeks ++ own-weeks) ≡ true
-unfolding weeks own-weeks all-right right same as-numbers requests-given letter live-letter least-so-far plan-letters plan-numbers costs-from letters-from opened log-of build first each has put lowest classes prices-of window version class-of server-count home-of request-count requests-offset id-offset total-length written-sum length-for seconds-of servers-of sum-from sum-of setup-conditions header-conditions before request-conditions log-conditions verdict-of head request-bytes requests-bytes body encode sum total requests latest previous length-of is-transfer cost-of reach arrive through reached rounds standing stands numbers flat row-of row-at rows-upto rows-of fits earlier follows keeps some? legal gap begin after spans any covered holds own cost begins-run run-end hold-rows all-holds transfers source rows-from rows put-mark markings first-least least-of plan plan-cost plan-rows row-count misfits misplaced row-conditions backed copy-condition serve-condition schedule-conditions check-verdict check-cost across set-of some-server class-prices window-of copy-at use-at fresh lasts kept uses stands-after next-use seconds accept running any-of server-broken broken scan-conditions start-verdict started-by started scan-verdict scanned-by scanned mark-outcome
+unfolding weeks own-weeks all-right right same as-numbers answer-numbers requests-in prices-in check-conditions check-verdict-of checked-by check-answer requests-given letter live-letter least-so-far plan-letters plan-numbers costs-from letters-from opened log-of build first each has put lowest classes prices-of window version class-of server-count home-of request-count requests-offset id-offset total-length written-sum length-for seconds-of servers-of sum-from sum-of setup-conditions header-conditions before request-conditions log-conditions verdict-of head request-bytes requests-bytes body encode sum total requests latest previous length-of is-transfer cost-of reach arrive through reached rounds standing stands numbers flat row-of row-at rows-upto rows-of fits earlier follows keeps some? legal gap begin after spans any covered holds own cost begins-run run-end hold-rows all-holds transfers source rows-from rows put-mark markings first-least least-of plan plan-cost plan-rows row-count misfits misplaced row-conditions backed copy-condition serve-condition schedule-conditions check-cost across set-of some-server class-prices window-of copy-at use-at fresh lasts kept uses stands-after next-use seconds accept running any-of server-broken broken scan-conditions start-verdict started-by started scan-verdict scanned-by scanned mark-outcome
 weeks-right = refl
