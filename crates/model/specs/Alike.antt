@@ -1,9 +1,10 @@
 -- Requests that agree up to the n-th have the same previous requests, legal marks and tables up to there: the table asks only for the first n requests.
-use mathlib.Core.Bool.{Bool, true, false}
+use mathlib.Core.Bool.{Bool, true, false, not}
 use mathlib.Core.Option.{Option, none, some}
 use mathlib.Core.Path.{_≡_, refl}
 use native.Mathlib.Omega.{arith}
 use Prim.Native.Nat.{ℕ, zero, suc, pred, _-_, _*_, _≤_, _<_, min}
+use lib.Dec.{eqb}
 use Rattle.prices.specs.declared.Prices.{Prices}
 use Rattle.model.specs.Requests.{Requests, latest, previous}
 use Rattle.model.specs.RequestLaws.{previous-some}
@@ -32,7 +33,9 @@ module _ (q q′ : Requests) (n : ℕ) (alike : Alike q q′ n) where
   pub legal-alike : (i : ℕ) (a : Mark) → i ≤ n → legal q i a ≡ legal q′ i a
   unfolding legal
   legal-alike i K h = rw (previous-alike i h)
-  legal-alike i S h = rw (alike .servers i h, alike .servers (pred i) (omega arith))
+  legal-alike i S h =
+      let e : not (eqb (q .server i) (q .server (pred i))) ≡ not (eqb (q′ .server i) (q′ .server (pred i))) = rw (alike .servers i h, alike .servers (pred i) (omega arith)) in
+      e
 
   -- the same open gaps
   pub open-gap-alike : (p : Prices) (i c : ℕ) → i < n → open-gap p q i c ≡ open-gap p q′ i c

@@ -1,8 +1,8 @@
 -- The table of the legal markings, by their marks: where K and S are legal, and the table's laws in those words.
-use mathlib.Core.Bool.{true, false}
+use mathlib.Core.Bool.{true, false, not}
 use mathlib.Core.Logic.{inl}
 use mathlib.Core.Option.{Option, none, some}
-use mathlib.Core.Path.{_≡_, refl, sym}
+use mathlib.Core.Path.{_≡_, refl, sym, ap}
 use native.Mathlib.Omega.{arith}
 use Prim.Native.Nat.{ℕ, zero, suc, _+_, _≤_, min}
 use lib.Dec.{eqb}
@@ -22,7 +22,9 @@ legal-K q i j e = rw e
 -- S is legal where there is no previous request: the one before is then elsewhere
 pub legal-S : (q : Requests) (i : ℕ) → previous q (suc i) ≡ none → legal q (suc i) S ≡ true
 unfolding legal
-legal-S q i e = rw (ne-eqb (q .server (suc i)) (q .server i) (λ h. previous-none q (suc i) e i (omega arith) (sym h)))
+legal-S q i e =
+    let apart : eqb (q .server (suc i)) (q .server i) ≡ false = ne-eqb (q .server (suc i)) (q .server i) (λ h. previous-none q (suc i) e i (omega arith) (sym h)) in
+    ap not apart
 
 -- where it is not, the request before is the previous one
 pub forced-next : (q : Requests) (i : ℕ) → legal q (suc i) S ≡ false → previous q (suc i) ≡ some i

@@ -17,7 +17,6 @@ pub mod HolderLaws
 pub mod LeastLaws
 pub mod LogRequests
 pub mod LowerBound
-pub mod LowestLaws
 pub mod Marking
 pub mod MarkingRows
 pub mod Once

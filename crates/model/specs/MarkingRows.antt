@@ -1,16 +1,16 @@
 -- The rows of a legal marking: well formed, feasible, at most two for each request, and they cost what the marking costs.
-use mathlib.Core.Bool.{true}
+use mathlib.Core.Bool.{true, false}
 use mathlib.Core.List.{List}
 use mathlib.Core.Path.{_≡_}
-use Prim.Native.Nat.{ℕ, _*_, _≤_}
+use Prim.Native.Nat.{ℕ, _*_, _≤_, _<_}
 use lib.ListN.{length}
+use Rattle.base.specs.LowestLaws.{Lowest, lowest-is, lowest-passes}
 use Rattle.prices.specs.declared.Prices.{Prices}
 use Rattle.model.specs.Requests.{Requests, Rising, Within}
 use Rattle.model.specs.Schedule.{Row, Feasible, cost-of}
 use Rattle.model.specs.RowForm.{well-formed}
 use Rattle.model.specs.Marking.{Mark, holds, cost, source, rows-from, rows}
 use Rattle.model.specs.Valid.{Valid, Good}
-use Rattle.model.specs.LowestLaws.{lowest-passes}
 use Rattle.model.specs.HolderLaws.{gap-held}
 use Rattle.model.specs.RowsFeasible.{rows-feasible}
 use Rattle.model.specs.RowsFormed.{rows-formed}
@@ -39,7 +39,15 @@ pub source-good : (q : Requests) (count : ℕ) (m : ℕ → Mark) (n : ℕ) → 
 unfolding source
 source-good q count m n within i a b e =
     let h = gap-held q m n count within i a b in
-    lowest-passes count (holds q m n i) (h .0) (h .1) (h .2)
+    let low = lowest-passes count (holds q m n i) (h .0) (h .1) (h .2) in
+    (low .1, low .2)
+
+-- and no server with a lower number holds over that gap
+pub source-lowest : (q : Requests) (count : ℕ) (m : ℕ → Mark) (n i y : ℕ) → y < source q count m n i → holds q m n i y ≡ false
+unfolding source
+source-lowest q count m n i y h =
+    let lowest-holder : Lowest count (holds q m n i) (source q count m n i) = lowest-is count (holds q m n i) in
+    lowest-holder .none y h
 
 -- with the lowest-numbered holders as sources
 pub rows-realize : (q : Requests) (count : ℕ) (m : ℕ → Mark) (n : ℕ)

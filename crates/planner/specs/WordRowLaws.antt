@@ -8,8 +8,7 @@ use lib.ListN.{getD}
 use borrow.Author.Tests.{lt-ltb, le-leb}
 use Rattle.base.specs.Sets.{has, lowest}
 use Rattle.base.specs.Lists.{build, build-at}
-use Rattle.base.specs.LowestLaws.{lowest-same, lowest-wider}
-use Rattle.model.specs.LowestLaws.{lowest-passes}
+use Rattle.base.specs.LowestLaws.{lowest-same, lowest-wider, lowest-passes}
 use Rattle.model.specs.Requests.{Requests, Within}
 use Rattle.model.specs.Schedule.{Row}
 use Rattle.model.specs.Marking.{Mark, holds, begins-run, run-end, hold-rows, all-holds, transfers, source, rows-from, rows}
@@ -92,7 +91,7 @@ module _ (q : Requests) (m : ℕ → Mark) (n : ℕ) (words : List ℕ) (right :
       let h = gap-held q m n count within i a b in
       let same : lowest count (has (getD words i 0)) ≡ lowest count (holds q m n i) = lowest-same count (has (getD words i 0)) (holds q m n i) (λ y l. right i a b y) in
       let p = lowest-passes count (holds q m n i) (h .0) (h .1) (h .2) in
-      lowest-wider count 64 (has (getD words i 0)) few (omega (arith, p .0)) ∙ same
+      lowest-wider count 64 (has (getD words i 0)) few (omega (arith, p .1)) ∙ same
 
   -- and so are the rows
   pub word-rows-right : (m′ : ℕ → Mark) (count : ℕ) → Agree n m m′ → Within count q n → count ≤ 64 → word-rows q words count m′ n ≡ rows q count m n
