@@ -2,7 +2,7 @@
 use mathlib.Core.Bool.{true}
 use mathlib.Core.List.{List, [], _∷_, _++_}
 use mathlib.Core.Path.{_≡_, refl, ap, sym, _∙_}
-use Prim.Native.Nat.{ℕ, suc, _≤_}
+use Prim.Native.Nat.{ℕ, suc, _*_, _≤_}
 use native.Mathlib.Omega.{arith}
 use borrow.Author.Tests.{le-ltb}
 use lib.ListN.{length, getD}
@@ -12,6 +12,7 @@ use Rattle.base.specs.RefusalLaws.{first-append, first-failed}
 use Rattle.base.specs.Lists.{build-at}
 use Rattle.log.specs.Fields.{request-count, server-count}
 use Rattle.log.specs.Conditions.{Accepted, verdict-of, log-conditions}
+use Rattle.log.specs.AcceptedLaws.{accepted-sound}
 use Rattle.log.specs.Contents.{decode, first-requests, cut}
 use Rattle.log.specs.Cutting.{cut-accepted, cut-decodes, cut-count}
 use Rattle.model.specs.Requests.{Rising, Within}
@@ -48,6 +49,8 @@ pub record Planned-best (log : List ℕ) (k : ℕ) : Type 0 where
   -- the planned rows are those of the plan of its k requests
   pub rows-are : rows-of-plan (cut k log)
       ≡ flat (plan-rows (prices-in (cut k log)) (requests-in (cut k log)) (server-count (cut k log)) k)
+  -- they are at most 4,096
+  pub few : length (planned-rows (cut k log)) ≤ 4096
   -- the checker accepts the planned rows with the planned cost
   pub checks : check-answer (cut k log) (rows-of-plan (cut k log)) ≡ answer.Cost (plan-cost (prices-in (cut k log)) (requests-in (cut k log)) k)
   -- they are well formed and feasible, cost that, and no feasible schedule costs less
@@ -76,6 +79,12 @@ module _ (log : List ℕ) (k : ℕ) (a : Accepted log) (h : k ≤ request-count 
   part-rows : rows-of-plan part ≡ flat (plan-rows (prices-in part) (requests-in part) (server-count part) k)
   unfolding rows-of-plan planned-rows
   part-rows = rw part-count
+
+  few : length (planned-rows part) ≤ 4096
+  unfolding planned-rows
+  few =
+      let rows : length (plan-rows (prices-in part) (requests-in part) (server-count part) (request-count part)) ≤ 2 * k = rw part-count (part-best .few) in
+      omega (arith, rows, accepted-sound log a .requests-most, h)
 
   checks : check-answer part (rows-of-plan part) ≡ answer.Cost (plan-cost (prices-in part) (requests-in part) k)
   unfolding check-answer check-verdict-of check-conditions verdict-of Accepted checked
@@ -116,6 +125,7 @@ planned-best log k a h =
       answered = answered log k a h;
       gives = gives log k a h;
       rows-are = part-rows log k a h;
+      few = few log k a h;
       checks = checks log k a h;
       best = part-best log k a h;
       least-is = least-is log k a h;
