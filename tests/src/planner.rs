@@ -256,7 +256,7 @@ mod tests {
 
     #[test]
     fn table_of_002_is_not_the_table_of_01() {
-        // READINGS 5.1: 002's recurrence would take K at the last request
+        // 002's recurrence would take K at the last request
         let header = Header { class: 0, server_count: 2, home: 0, id: [0; 16] };
         let requests = [(1, 1), (12, 1), (13, 0)].map(|(second, server)| Request { second, server }).to_vec();
         let plan = plan(&Log { header, requests });

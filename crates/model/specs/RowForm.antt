@@ -51,12 +51,13 @@ follows (hold x a b) (move v) = true
 follows (move u) (hold y c d) = false
 follows (move u) (move v) = earlier u v
 
--- all rows fit, and each may follow the one before it
+-- each row may follow the one before it
 unfoldable pub ordered : List Row → Bool
 ordered [] = true
 ordered (r ∷ []) = true
 ordered (r ∷ r′ ∷ rows) = both (follows r r′) (ordered (r′ ∷ rows))
 
+-- all rows fit
 unfoldable pub all-fit : ℕ → ℕ → List Row → Bool
 all-fit count last [] = true
 all-fit count last (r ∷ rows) = both (fits count last r) (all-fit count last rows)

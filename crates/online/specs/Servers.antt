@@ -1,4 +1,4 @@
--- Over the servers 0 to n - 1: a sum, a set in a word, a test of each. Each goes up by one server, as a loop does. Assumes nothing.
+-- Over the servers 0 to n - 1: a sum, a set in a word, a test of each. Assumes nothing.
 use mathlib.Core.Bool.{Bool, false}
 use Prim.Native.Nat.{ℕ, zero, suc, pred}
 use Rattle.base.specs.Choice.{pick, either}

@@ -9,6 +9,6 @@ unfoldable pub digits : ℕ → ℕ → List ℕ
 digits zero n = []
 digits (suc k) n = pick (ltb n 10) ((48 + n) ∷ []) (digits k (n / 10) ++ ((48 + n % 10) ∷ []))
 
--- all of them: no number has more digits than it has ones, but for 0
+-- all of them: n + 1 digits are enough for n
 unfoldable pub decimal : ℕ → List ℕ
 decimal n = digits (suc n) n

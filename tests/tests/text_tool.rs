@@ -1,0 +1,79 @@
+//! tools/log_from_text.py, run as a user would run it.
+
+use std::io::Write;
+use std::path::{Path, PathBuf};
+use std::process::{Command, Output, Stdio};
+
+fn root() -> PathBuf {
+    Path::new(env!("CARGO_MANIFEST_DIR")).join("..")
+}
+
+fn run(words: &[&str], text: &[u8]) -> Output {
+    let mut child = Command::new("python3")
+        .arg(root().join("tools/log_from_text.py"))
+        .args(words)
+        .stdin(Stdio::piped())
+        .stdout(Stdio::piped())
+        .stderr(Stdio::piped())
+        .spawn()
+        .unwrap();
+    let mut stdin = child.stdin.take().unwrap();
+    // a tool that has given up on its words reads nothing
+    let _ = stdin.write_all(text);
+    drop(stdin);
+    child.wait_with_output().unwrap()
+}
+
+fn made(text: &[u8]) -> Vec<u8> {
+    let output = run(&["0", "4", "0", "week-b"], text);
+    assert!(output.status.success() && output.stderr.is_empty(), "{output:?}");
+    output.stdout
+}
+
+/// Nothing is written, and one line says what is wrong.
+fn refused(words: &[&str], text: &[u8], message: &str) {
+    let output = run(words, text);
+    assert_eq!(output.status.code(), Some(1));
+    assert!(output.stdout.is_empty(), "{output:?}");
+    assert_eq!(String::from_utf8(output.stderr).unwrap(), format!("{message}\n"));
+}
+
+#[test]
+fn the_sample() {
+    let text = std::fs::read(root().join("samples/week-b.txt")).unwrap();
+    assert_eq!(made(&text), std::fs::read(root().join("samples/week-b.log")).unwrap());
+}
+
+#[test]
+fn layouts_of_one_text() {
+    let plain = made(b"5 1\n8 2\n");
+    for text in [&b"5 1\r\n8 2\r\n"[..], b"5 1\n8 2", b"\n# two scans\n 5\t1 \n\n8 2\n", b"\xef\xbb\xbf5 1\n8 2\n", b"05 1\n8 002\n"] {
+        assert_eq!(made(text), plain);
+    }
+}
+
+#[test]
+fn wrong_lines() {
+    let two = "line 2: two numbers are wanted, a second and a station";
+    let cases: [(&[u8], &str); 8] = [
+        (b"5 1\n8\n", two),
+        (b"5 1\n8 2 3\n", two),
+        (b"5 1\n8 2 # late\n", two),
+        (b"5 1\n-8 2\n", "line 2, second: a whole number is wanted, not '-8'"),
+        (b"5 1\n8.0 2\n", "line 2, second: a whole number is wanted, not '8.0'"),
+        (b"5 1\n8 two\n", "line 2, station: a whole number is wanted, not 'two'"),
+        (b"5 1\n4294967296 2\n", "line 2, second: 4294967296 is above 4294967295"),
+        (b"5 1\n8 65536\n", "line 2, station: 65536 is above 65535"),
+    ];
+    for (text, message) in cases {
+        refused(&["0", "4", "0"], text, message);
+    }
+}
+
+#[test]
+fn wrong_words() {
+    refused(&["256", "4", "0"], b"", "CLASS: 256 is above 255");
+    refused(&["0", "four", "0"], b"", "STATIONS: a whole number is wanted, not 'four'");
+    refused(&["0", "4", "-1"], b"", "HOME: a whole number is wanted, not '-1'");
+    refused(&["0", "4", "0", "seventeen letters"], b"", "ID: more than 16 bytes");
+}
