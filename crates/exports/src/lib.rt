@@ -1,4 +1,5 @@
-// What programs in other languages link: each public call on numbers, slices and `#[repr(C)]` structs. None requires anything.
+// What programs in other languages link: the calls of log, checker, planner and online on numbers, slices and `#[repr(C)]` structs
+// (include/caching.h). None requires anything.
 // A slice crosses as a pointer and then a length, each an argument of its own.
 mod caches;
 mod logs;

@@ -1,0 +1,79 @@
+/* The calls of target/staticlib/libexports.a (rt staticlib exports), for C. Their promises are in crates/exports.
+ * No call needs anything of its arguments but that each pointer has as many elements behind it as the length after it says;
+ * with length 0 it may be null. Server is station, request is scan, transfer is send, cost is bill in the printed page's words. */
+#ifndef CACHING_H
+#define CACHING_H
+
+#include <stdbool.h>
+#include <stddef.h>
+#include <stdint.h>
+
+/* number 0 and up to two values, or a refusal's number and place */
+struct caching_answer {
+    uint32_t number;
+    uint64_t place;
+    uint64_t value;
+    uint64_t more;
+};
+
+struct caching_header {
+    uint8_t file_class;
+    uint8_t server_count;
+    uint8_t home;
+    uint8_t id[16];
+};
+
+struct caching_read_answer {
+    struct caching_header header;
+    struct caching_answer answer;
+};
+
+/* the online cache: every field may be read, and a state that no call gave back is refused or served as it stands */
+struct caching_cache {
+    uint8_t file_class;
+    uint8_t server_count;
+    uint16_t last;
+    uint32_t second;
+    uint32_t last_use[64];
+    uint64_t holders;
+    uint32_t requests;
+    uint32_t transfers;
+    uint32_t held;
+    bool closed;
+};
+
+struct caching_cache_answer {
+    struct caching_cache cache;
+    struct caching_answer answer;
+};
+
+/* the sum of a log's bytes */
+uint32_t caching_sum(const uint8_t *log, size_t log_length);
+
+/* value: the number of requests */
+struct caching_read_answer caching_read(const uint8_t *log, size_t log_length, uint32_t *seconds, size_t seconds_length,
+                                        uint16_t *servers, size_t servers_length);
+
+/* value: the number of bytes written */
+struct caching_answer caching_write(struct caching_header header, const uint32_t *seconds, size_t seconds_length,
+                                    const uint16_t *servers, size_t servers_length, uint8_t *log, size_t log_length);
+
+/* rows are four numbers each; value: their cost */
+struct caching_answer caching_check(const uint8_t *log, size_t log_length, const uint32_t *rows, size_t rows_length);
+
+/* value: the least cost; more: the number of rows. Marks are the letters K and S */
+struct caching_answer caching_plan(const uint8_t *log, size_t log_length, uint8_t *marks, size_t marks_length,
+                                   uint32_t *rows, size_t rows_length);
+
+/* value: how many costs, one for each number of first requests, from none to all */
+struct caching_answer caching_least(const uint8_t *log, size_t log_length, uint64_t *costs, size_t costs_length);
+
+struct caching_cache_answer caching_start(uint8_t file_class, uint8_t server_count, uint8_t home);
+
+/* value 0: kept; value 1: sent, more: from which server */
+struct caching_cache_answer caching_scan(struct caching_cache cache, uint32_t second, uint16_t server);
+
+/* value: the running cost */
+struct caching_cache_answer caching_close(struct caching_cache cache);
+
+#endif

@@ -1,0 +1,56 @@
+/* Every call of include/caching.h once, on the week of document 01's case C, as C links it; prints what each gives. */
+#include "../../include/caching.h"
+#include <stdio.h>
+#include <string.h>
+
+static void say(const char *name, struct caching_answer a)
+{
+    printf("%s: %u %llu %llu %llu\n", name, (unsigned)a.number, (unsigned long long)a.place, (unsigned long long)a.value,
+           (unsigned long long)a.more);
+}
+
+int main(void)
+{
+    const uint32_t seconds[4] = {1, 2, 11, 12};
+    const uint16_t servers[4] = {1, 2, 1, 0};
+    struct caching_header header = {0, 3, 0, {0}};
+    memcpy(header.id, "0123456789abcdef", 16);
+
+    uint8_t log[64];
+    say("write", caching_write(header, seconds, 4, servers, 4, log, 64));
+    say("write short", caching_write(header, seconds, 4, servers, 4, log, 63));
+    printf("sum as written: %d\n", caching_sum(log, 64) == (log[20] | log[21] << 8 | log[22] << 16 | (uint32_t)log[23] << 24));
+
+    uint32_t seconds_read[5] = {9, 9, 9, 9, 9};
+    uint16_t servers_read[5] = {9, 9, 9, 9, 9};
+    struct caching_read_answer read = caching_read(log, 64, seconds_read, 5, servers_read, 5);
+    say("read", read.answer);
+    printf("read back: %d %d %d\n", memcmp(&read.header, &header, sizeof header) == 0,
+           memcmp(seconds_read, seconds, sizeof seconds) == 0 && seconds_read[4] == 0,
+           memcmp(servers_read, servers, sizeof servers) == 0 && servers_read[4] == 0);
+    say("read nothing", caching_read(NULL, 0, NULL, 0, NULL, 0).answer);
+
+    uint8_t marks[4];
+    uint32_t rows[32];
+    struct caching_answer plan = caching_plan(log, 64, marks, 4, rows, 32);
+    say("plan", plan);
+    printf("marks: %.4s\n", (const char *)marks);
+    say("check", caching_check(log, 64, rows, 4 * plan.more));
+    say("check nothing", caching_check(log, 64, NULL, 0));
+
+    uint64_t costs[5];
+    say("least", caching_least(log, 64, costs, 5));
+    for (int k = 0; k < 5; k++)
+        printf("least %d: %llu\n", k, (unsigned long long)costs[k]);
+
+    struct caching_cache_answer live = caching_start(0, 3, 0);
+    say("start", live.answer);
+    for (int k = 0; k < 4; k++) {
+        live = caching_scan(live.cache, seconds[k], servers[k]);
+        say("scan", live.answer);
+    }
+    live = caching_close(live.cache);
+    say("close", live.answer);
+    say("close again", caching_close(live.cache).answer);
+    return 0;
+}
