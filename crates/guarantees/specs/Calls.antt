@@ -16,7 +16,7 @@ use Rattle.base.specs.RefusalLaws.{nth, First, first-refused, first-passed, fir
 use Rattle.base.specs.Lent.{lent}
 use Rattle.base.specs.Lists.{build-length}
 use Rattle.log.specs.Fields.{request-count, seconds-of, servers-of, length-for}
-use Rattle.log.specs.Conditions.{setup-conditions, log-conditions, verdict-of}
+use Rattle.log.specs.Conditions.{setup-conditions, log-conditions}
 use Rattle.log.specs.Contents.{Contents, contents-conditions, encode}
 use Rattle.log.specs.Answers.{read-verdict, write-verdict}
 use Rattle.log.specs.AnswerLaws.{read-passed, write-passed}

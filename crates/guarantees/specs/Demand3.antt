@@ -1,27 +1,25 @@
 -- Demand 3 whole. The planner's half: every accepted log, cut to its first requests. The online half: every list of calls after a start.
-use mathlib.Core.Bool.{true}
-use mathlib.Core.List.{List, [], _∷_, _++_}
+use mathlib.Core.List.{List, _++_}
 use mathlib.Core.Path.{_≡_, refl, ap, sym, _∙_}
 use Prim.Native.Nat.{ℕ, suc, _*_, _≤_}
 use native.Mathlib.Omega.{arith}
 use borrow.Author.Tests.{le-ltb}
 use lib.ListN.{length, getD}
 use Rattle.base.specs.declared.Verdict.the-variants.{Passed}
-use Rattle.base.specs.Refusals.{first, short}
-use Rattle.base.specs.RefusalLaws.{first-append, first-failed}
+use Rattle.base.specs.Refusals.{first}
+use Rattle.base.specs.RefusalLaws.{first-append}
 use Rattle.base.specs.Lists.{build-at}
 use Rattle.log.specs.Fields.{request-count, server-count}
 use Rattle.log.specs.Conditions.{Accepted, verdict-of, log-conditions}
 use Rattle.log.specs.AcceptedLaws.{accepted-sound}
 use Rattle.log.specs.Contents.{decode, first-requests, cut}
 use Rattle.log.specs.Cutting.{cut-accepted, cut-decodes, cut-count}
-use Rattle.model.specs.Requests.{Rising, Within}
 use Rattle.model.specs.LogRequests.{requests-in, prices-in}
-use Rattle.model.specs.LogRequestLaws.{log-rising, log-within, cut-alike, cut-prices, cut-server-count}
+use Rattle.model.specs.LogRequestLaws.{log-rising, log-within, cut-alike, cut-prices}
 use Rattle.model.specs.Alike.{best-alike}
 use Rattle.model.specs.Plan.{plan-cost, plan-rows}
 use Rattle.model.specs.PlanLaws.{plan-best}
-use Rattle.model.specs.Checking.{check-cost, schedule-conditions}
+use Rattle.model.specs.Checking.{schedule-conditions}
 use Rattle.model.specs.CheckingLaws.{flat-accepted, flat-cost}
 use Rattle.model.specs.RowForm.{flat}
 use Rattle.checker.specs.declared.Checked.{Checked}

@@ -1,26 +1,26 @@
 -- A worked week of 01: what is handed in, what 01 says of it, and the test that the definitions say the same. Assumes nothing.
 use mathlib.Core.Bool.{Bool, true, false}
-use mathlib.Core.List.{List, [], _∷_, _++_}
-use Prim.Native.Nat.{ℕ, zero, suc}
+use mathlib.Core.List.{List, [], _∷_}
+use Prim.Native.Nat.{ℕ, suc}
 use lib.Dec.{eqb}
-use lib.ListN.{length, replicate, take}
+use lib.ListN.{length, replicate}
 use Rattle.base.specs.Choice.{pick, both}
 use Rattle.base.specs.Lists.{build}
-use Rattle.base.specs.declared.Refusal.{Refusal}
 use Rattle.base.specs.declared.Verdict.{Verdict}
 use Rattle.base.specs.declared.Verdict.the-variants.{Passed, Refused}
 use Rattle.prices.specs.Prices.{prices-of}
-use Rattle.log.specs.declared.Header.{Header}
 use Rattle.log.specs.Conditions.{verdict-of}
 use Rattle.log.specs.Contents.{contents, encode}
 use Rattle.model.specs.Requests.{Requests, requests}
-use Rattle.model.specs.RowForm.{flat, rows-of}
+use Rattle.model.specs.RowForm.{flat}
 use Rattle.model.specs.Sums.{total}
-use Rattle.model.specs.Marking.{Mark, K, S, cost}
+use Rattle.model.specs.Marking.{cost}
 use Rattle.model.specs.Plan.{markings, plan, plan-cost, plan-rows}
 use Rattle.checker.specs.declared.Checked.{Checked}
 use Rattle.checker.specs.declared.Checked.the-variants as answer
 use Rattle.checker.specs.Answers.{check-answer}
+use Rattle.planner.specs.Answers.{letter}
+use Rattle.report.specs.Replies.{outcome-letter}
 use Rattle.online.specs.declared.Cache.{Cache}
 use Rattle.online.specs.declared.ScanOutcome.{ScanOutcome}
 use Rattle.online.specs.declared.ScanOutcome.the-variants as scan
@@ -66,16 +66,6 @@ answer-numbers (answer.Refused r) = r .number ∷ r .place ∷ 0 ∷ []
 unfoldable pub requests-given : Given → Requests
 requests-given g = requests (g .home) (g .seconds) (g .servers)
 
--- the letters of marks: K is 75, S is 83; 0 for a refusal
-unfoldable pub letter : Mark → ℕ
-letter K = 75
-letter S = 83
-
-unfoldable pub live-letter : ScanOutcome → ℕ
-live-letter scan.Kept = 75
-live-letter (scan.Sent x) = 83
-live-letter (scan.Refused r) = 0
-
 -- the least cost of the first 0, 1, 2, .. requests
 unfoldable pub least-so-far : Given → List ℕ
 least-so-far g = build (suc (length (g .seconds))) (λ k. plan-cost (prices-of (g .«class»)) (requests-given g) k)
@@ -97,7 +87,7 @@ costs-from c [] xs = running c ∷ []
 costs-from c (t ∷ ts) [] = running c ∷ []
 
 unfoldable pub letters-from : Cache → List ℕ → List ℕ → List ℕ
-letters-from c (t ∷ ts) (x ∷ xs) = let a = scanned c t x in live-letter (a .outcome) ∷ letters-from (a .cache) ts xs
+letters-from c (t ∷ ts) (x ∷ xs) = let a = scanned c t x in outcome-letter (a .outcome) ∷ letters-from (a .cache) ts xs
 letters-from c [] xs = []
 letters-from c (t ∷ ts) [] = []
 
