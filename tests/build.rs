@@ -1,4 +1,5 @@
 //! Where the static library of `rt staticlib exports` is: target/staticlib of this repository, or the folder that EXPORTS_DIR names.
+//! Where it is missing, `no_exports` is set: what needs it then does not compile, and says so.
 use std::env;
 use std::path::PathBuf;
 
@@ -10,4 +11,8 @@ fn main() {
     println!("cargo:rerun-if-env-changed=EXPORTS_DIR");
     println!("cargo:rerun-if-changed={}", folder.join("libexports.a").display());
     println!("cargo:rustc-link-search=native={}", folder.display());
+    println!("cargo:rustc-check-cfg=cfg(no_exports)");
+    if !folder.join("libexports.a").exists() {
+        println!("cargo:rustc-cfg=no_exports");
+    }
 }

@@ -11,8 +11,9 @@ use library::Library;
 use reference::calls::Calls;
 use reference::fast::{self, Fast};
 use reference::log::{Header, Log, Request};
-use reference::online::Cache;
+use reference::online::{Cache, Served};
 use reference::random::{random_requests, Random};
+use reference::Refusal;
 use std::hint::black_box;
 
 const REQUESTS: [usize; 4] = [0, 64, 512, 2_048];
@@ -183,22 +184,25 @@ fn output<T: Clone + Default>(length: usize) -> Vec<T> {
     output
 }
 
-/// A whole log given to a new cache, a state going in and coming back by value.
-fn online<C: Calls>(log: &Log) -> Cache {
+/// The answer of a scan.
+type Answer = Result<Served, Refusal>;
+
+/// A whole log given to a new cache, a state going in and coming back by value; and what is done with each answer.
+fn online<C: Calls>(log: &Log, mut answered: impl FnMut(Answer)) -> Cache {
     let (mut cache, _) = C::start(log.header.class, log.header.server_count, log.header.home);
     for request in &log.requests {
         let (next, served) = C::scan(&cache, request.second, request.server);
-        used(served);
+        answered(served);
         cache = next;
     }
     cache
 }
 
 /// The same in place, as Rust alone has it.
-fn online_in_place(log: &Log) -> Cache {
+fn online_in_place(log: &Log, mut answered: impl FnMut(Answer)) -> Cache {
     let (mut cache, _) = Fast::start(log.header.class, log.header.server_count, log.header.home);
     for request in &log.requests {
-        used(fast::online::scan(&mut cache, request.second, request.server));
+        answered(fast::online::scan(&mut cache, request.second, request.server));
     }
     cache
 }
@@ -210,7 +214,7 @@ fn sum_by_bytes(file: &[u8]) -> u32 {
     file[file.len().min(24)..].iter().fold(front, next)
 }
 
-/// The times of one call on a case. Both give the same answer.
+/// The times of one call on a case. Both give the same answer and the same outputs.
 fn measure(call: &str, case: &Case) -> Times {
     let Case { log, file, rows } = case;
     let count = log.requests.len();
@@ -219,6 +223,7 @@ fn measure(call: &str, case: &Case) -> Times {
             let (mut marks_a, mut rows_a) = (output(count), output(rows.len()));
             let (mut marks_b, mut rows_b) = (output(count), output(rows.len()));
             assert_eq!(Library::plan(file, &mut marks_a, &mut rows_a), Fast::plan(file, &mut marks_b, &mut rows_b));
+            assert_eq!((&marks_a, &rows_a), (&marks_b, &rows_b));
             times(
                 &mut || used(Library::plan(black_box(file), &mut marks_a, &mut rows_a)),
                 &mut || used(Fast::plan(black_box(file), &mut marks_b, &mut rows_b)),
@@ -227,6 +232,7 @@ fn measure(call: &str, case: &Case) -> Times {
         "least" => {
             let (mut costs_a, mut costs_b) = (output(count + 1), output(count + 1));
             assert_eq!(Library::least(file, &mut costs_a), Fast::least(file, &mut costs_b));
+            assert_eq!(costs_a, costs_b);
             times(
                 &mut || used(Library::least(black_box(file), &mut costs_a)),
                 &mut || used(Fast::least(black_box(file), &mut costs_b)),
@@ -243,6 +249,7 @@ fn measure(call: &str, case: &Case) -> Times {
             let (mut seconds_a, mut servers_a) = (output(count), output(count));
             let (mut seconds_b, mut servers_b) = (output(count), output(count));
             assert_eq!(Library::read(file, &mut seconds_a, &mut servers_a), Fast::read(file, &mut seconds_b, &mut servers_b));
+            assert_eq!((&seconds_a, &servers_a), (&seconds_b, &servers_b));
             times(
                 &mut || used(Library::read(black_box(file), &mut seconds_a, &mut servers_a)),
                 &mut || used(Fast::read(black_box(file), &mut seconds_b, &mut servers_b)),
@@ -252,6 +259,7 @@ fn measure(call: &str, case: &Case) -> Times {
             let (seconds, servers) = (log.seconds(), log.servers());
             let (mut file_a, mut file_b) = (output(file.len()), output(file.len()));
             assert_eq!(Library::write(&log.header, &seconds, &servers, &mut file_a), Fast::write(&log.header, &seconds, &servers, &mut file_b));
+            assert_eq!(file_a, file_b);
             times(
                 &mut || used(Library::write(&log.header, black_box(&seconds), &servers, &mut file_a)),
                 &mut || used(Fast::write(&log.header, black_box(&seconds), &servers, &mut file_b)),
@@ -266,12 +274,16 @@ fn measure(call: &str, case: &Case) -> Times {
             times(&mut || used(Library::sum(black_box(file))), &mut || used(sum_by_bytes(black_box(file))))
         }
         "scan" => {
-            assert_eq!(online::<Library>(log), online::<Fast>(log));
-            times(&mut || used(online::<Library>(black_box(log))), &mut || used(online::<Fast>(black_box(log))))
+            let (mut answers_a, mut answers_b) = (vec![], vec![]);
+            assert_eq!(online::<Library>(log, |answer| answers_a.push(answer)), online::<Fast>(log, |answer| answers_b.push(answer)));
+            assert_eq!(answers_a, answers_b);
+            times(&mut || used(online::<Library>(black_box(log), used)), &mut || used(online::<Fast>(black_box(log), used)))
         }
         "scan in place" => {
-            assert_eq!(online::<Library>(log), online_in_place(log));
-            times(&mut || used(online::<Library>(black_box(log))), &mut || used(online_in_place(black_box(log))))
+            let (mut answers_a, mut answers_b) = (vec![], vec![]);
+            assert_eq!(online::<Library>(log, |answer| answers_a.push(answer)), online_in_place(log, |answer| answers_b.push(answer)));
+            assert_eq!(answers_a, answers_b);
+            times(&mut || used(online::<Library>(black_box(log), used)), &mut || used(online_in_place(black_box(log), used)))
         }
         _ => unreachable!(),
     }

@@ -3,23 +3,45 @@
 use reference::log::{Header, Log, Request};
 use reference::random::{damaged_log, random_log, Random};
 use reference::sheet::printed;
-use std::fs::File;
-use std::io::Write;
+use std::fs::{self, File};
+use std::io::{Read, Write};
+use std::os::unix::process::ExitStatusExt;
 use std::path::PathBuf;
-use std::process::{Command, Output, Stdio};
+use std::process::{Child, Command, Output, Stdio};
+use std::thread::sleep;
+use std::time::Duration;
 
-fn program() -> Command {
-    Command::new(PathBuf::from(env!("CARGO_MANIFEST_DIR")).join("../target/bin/sheet"))
+fn path() -> PathBuf {
+    PathBuf::from(env!("CARGO_MANIFEST_DIR")).join("../target/bin/sheet")
 }
 
-/// What the program prints for an input; it ends with status 0 and writes nothing else.
-fn run(input: &[u8]) -> String {
-    let mut child = program().stdin(Stdio::piped()).stdout(Stdio::piped()).stderr(Stdio::piped()).spawn().expect("rt check sheet");
+fn program() -> Command {
+    Command::new(path())
+}
+
+/// The program in the shell's place, with words before it and redirections after it.
+fn by_shell(before: &str, after: &str) -> Command {
+    let mut shell = Command::new("sh");
+    shell.arg("-c").arg(format!("{before} exec \"$0\" {after}")).arg(path());
+    shell
+}
+
+fn spawn(mut command: Command) -> Child {
+    command.stdin(Stdio::piped()).stdout(Stdio::piped()).stderr(Stdio::piped()).spawn().expect("rt check sheet")
+}
+
+/// What a command prints for an input; it ends with status 0 and writes nothing else.
+fn given(command: Command, input: &[u8]) -> String {
+    let mut child = spawn(command);
     let mut stdin = child.stdin.take().unwrap();
     // a longer input than the program reads closes the pipe before all of it is written
     let _ = stdin.write_all(input);
     drop(stdin);
     text_of(child.wait_with_output().unwrap())
+}
+
+fn run(input: &[u8]) -> String {
+    given(program(), input)
 }
 
 fn text_of(output: Output) -> String {
@@ -32,6 +54,23 @@ fn week_c() -> Log {
     let header = Header { class: 0, server_count: 3, home: 0, id: *b"case C of doc 01" };
     let requests = [(1, 1), (2, 2), (11, 1), (12, 0)].map(|(second, server)| Request { second, server });
     Log { header, requests: requests.to_vec() }
+}
+
+/// A week whose sheet is longer than a pipe holds, 65,536 bytes, so that the program has to wait for its reader.
+fn long_week() -> (Vec<u8>, String) {
+    let header = Header { class: 7, server_count: 64, home: 63, id: [7; 16] };
+    let requests = (1..=2_048).map(|i| Request { second: 1_953 * i, server: (29 * i % 64) as u16 }).collect();
+    let input = Log { header, requests }.bytes();
+    let sheet = printed(&input);
+    assert!(sheet.len() > 65_536);
+    (input, sheet)
+}
+
+/// A file of a test's own.
+fn file_with(name: &str, content: &[u8]) -> PathBuf {
+    let file = PathBuf::from(env!("CARGO_TARGET_TMPDIR")).join(name);
+    fs::write(&file, content).unwrap();
+    file
 }
 
 const WEEK_C: &str = "\
@@ -100,13 +139,91 @@ fn longer_than_any_log() {
 }
 
 #[test]
-fn an_output_that_cannot_be_written() {
-    let mut file = File::create(PathBuf::from(env!("CARGO_TARGET_TMPDIR")).join("week-c.log")).unwrap();
-    file.write_all(&week_c().bytes()).unwrap();
-    let input = || File::open(PathBuf::from(env!("CARGO_TARGET_TMPDIR")).join("week-c.log")).unwrap();
-    let full = File::options().write(true).open("/dev/full").unwrap();
-    let output = program().stdin(input()).stdout(full).stderr(Stdio::piped()).output().unwrap();
-    assert_eq!(text_of(output), "");
+fn an_input_that_can_only_be_written() {
+    let input = File::options().write(true).open(file_with("only-written.log", &week_c().bytes())).unwrap();
+    let output = program().stdin(input).stdout(Stdio::piped()).stderr(Stdio::piped()).output().unwrap();
+    assert_eq!(text_of(output), "refused input 1 place 0\n");
+}
+
+#[test]
+fn a_closed_input() {
+    assert_eq!(given(by_shell("", "<&-"), &week_c().bytes()), "refused input 1 place 0\n");
+}
+
+#[test]
+fn a_closed_output() {
+    assert_eq!(given(by_shell("", ">&-"), &week_c().bytes()), "");
+    assert_eq!(given(by_shell("", ">&-"), b""), "");
+}
+
+#[test]
+fn an_output_that_is_full() {
+    assert_eq!(given(by_shell("", "> /dev/full"), &week_c().bytes()), "");
+    assert_eq!(given(by_shell("", "> /dev/full"), b""), "");
+}
+
+/// The output takes a part of the sheet: nothing but that part is written.
+#[test]
+fn an_output_that_gets_full() {
+    let (input, sheet) = long_week();
+    let file = file_with("short.txt", b"");
+    let after = format!("> '{}'", file.display());
+    assert_eq!(given(by_shell("trap '' XFSZ; ulimit -f 16;", &after), &input), "");
+    let written = fs::read_to_string(file).unwrap();
+    assert!(!written.is_empty() && written.len() < sheet.len(), "{}", written.len());
+    assert!(sheet.starts_with(&written));
+}
+
+/// The reader goes, having read nothing or a part of the sheet: the system's signal 13 ends the program, and the part is of the sheet.
+#[test]
+fn a_reader_that_has_gone() {
+    let (input, sheet) = long_week();
+    for length in [0, 1, 41, 5_000] {
+        let mut child = spawn(program());
+        child.stdin.take().unwrap().write_all(&input).unwrap();
+        let mut part = vec![0; length];
+        child.stdout.take().unwrap().read_exact(&mut part).unwrap();
+        let output = child.wait_with_output().unwrap();
+        assert_eq!((output.status.signal(), output.status.code()), (Some(13), None));
+        assert!(output.stderr.is_empty(), "{output:?}");
+        assert_eq!(part, sheet.as_bytes()[..length]);
+    }
+}
+
+#[test]
+fn a_slow_reader() {
+    let (input, sheet) = long_week();
+    let mut child = spawn(program());
+    child.stdin.take().unwrap().write_all(&input).unwrap();
+    let mut stdout = child.stdout.take().unwrap();
+    let (mut text, mut piece) = (vec![], [0; 1_000]);
+    loop {
+        sleep(Duration::from_millis(2));
+        let length = stdout.read(&mut piece).unwrap();
+        if length == 0 {
+            break;
+        }
+        text.extend(&piece[..length]);
+    }
+    assert_eq!(text_of(child.wait_with_output().unwrap()), "");
+    assert_eq!(String::from_utf8(text).unwrap(), sheet);
+}
+
+#[test]
+fn an_input_in_small_pieces() {
+    let (long, sheet) = long_week();
+    let mut cut = week_c().bytes();
+    cut.pop();
+    for (input, length, text) in [(week_c().bytes(), 1, WEEK_C), (cut, 7, "refused input 9 place 0\n"), (long, 500, &sheet)] {
+        let mut child = spawn(program());
+        let mut stdin = child.stdin.take().unwrap();
+        for piece in input.chunks(length) {
+            stdin.write_all(piece).unwrap();
+            sleep(Duration::from_millis(2));
+        }
+        drop(stdin);
+        assert_eq!(text_of(child.wait_with_output().unwrap()), text);
+    }
 }
 
 #[test]

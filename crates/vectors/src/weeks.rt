@@ -127,11 +127,23 @@ fn show_week(week: [u32; 6]) {
     show_filled(week, &seconds, &servers);
 }
 
+// The marks of three requests.
+fn show_marks(log: &[u8; 58]) {
+    let mut marks = [7u8; 3];
+    let mut rows = [7u32; 24];
+    planned(log, &mut marks, &mut rows);
+    say::text(b" marks ");
+    say::text(&marks);
+}
+
 // The week whose marks are SKS, where 002's table would keep the last request for a cost that no marks have.
 fn show_sks() {
     let seconds = [1u32, 12, 13];
     let servers = [1u16, 1, 0];
+    let mut log = [0u8; 58];
+    written(0, 2, 0, &seconds, &servers, &mut log);
     say::text(b"1 at 1, 12 at 1, 13 at 0:");
+    show_marks(&log);
     show_requests(0, 2, 0, &seconds, &servers);
 }
 

@@ -154,8 +154,12 @@ pub fn round_trips<C: Calls>(seed: u64, times: usize) {
         let mut file = noise8(&mut random, 40 + 6 * count);
         assert_eq!(C::write(&log.header, &log.seconds(), &log.servers(), &mut file), Ok(file.len() as u64));
         let (mut seconds, mut servers) = (noise32(&mut random, count), noise16(&mut random, count));
-        assert_eq!(C::read(&file, &mut seconds, &mut servers), (log.header, Ok(count as u16)));
-        assert_eq!((seconds, servers), (log.seconds(), log.servers()));
+        let (header, read) = C::read(&file, &mut seconds, &mut servers);
+        assert_eq!((header, read), (log.header, Ok(count as u16)));
+        assert_eq!((&seconds, &servers), (&log.seconds(), &log.servers()));
+        let mut again = noise8(&mut random, file.len());
+        assert_eq!(C::write(&header, &seconds, &servers, &mut again), Ok(file.len() as u64));
+        assert_eq!(again, file);
     }
 }
 

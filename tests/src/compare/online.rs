@@ -118,7 +118,8 @@ impl Run {
     }
 }
 
-/// All lists of a few calls: scans at up to three servers after a gap of 0, 1, the window and one more, and closes.
+/// All lists of a few calls, taken and refused: scans at up to three servers and one past them, after a gap of 0, 1, the window and
+/// one more, and closes.
 pub fn every_small_list<C: Calls>(most: usize) {
     let mut met = Met::default();
     for class in 0..8 {
@@ -138,15 +139,11 @@ fn every_list<C: Calls>(cache: &Cache, gaps: &[u32], left: usize, met: &mut Met)
         return;
     }
     let (next, _) = call::<C>(cache, Call::Close, met);
-    if left > 1 {
-        every_list::<C>(&next, &gaps[..2], 1, met);
-    }
+    every_list::<C>(&next, gaps, left - 1, met);
     for gap in gaps {
         for server in 0..=cache.server_count as u16 {
-            let (next, outcome) = call::<C>(cache, Call::Scan(cache.second + gap, server), met);
-            if outcome.is_ok() {
-                every_list::<C>(&next, gaps, left - 1, met);
-            }
+            let (next, _) = call::<C>(cache, Call::Scan(cache.second + gap, server), met);
+            every_list::<C>(&next, gaps, left - 1, met);
         }
     }
 }

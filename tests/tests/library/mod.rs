@@ -8,6 +8,9 @@ use reference::log::Header;
 use reference::online::{Cache, Served};
 use reference::Refusal;
 
+#[cfg(no_exports)]
+compile_error!("libexports.a is missing: run `rt staticlib exports` at the root of the repository, or name its folder in EXPORTS_DIR");
+
 /// An answer in numbers: a refusal's number and place, or number 0 and up to two values.
 #[repr(C)]
 struct Answer {
