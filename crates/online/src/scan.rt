@@ -2,7 +2,7 @@
 ghost use mathlib.Core.Bool.{true};
 ghost use mathlib.Core.Logic.{_≢_};
 ghost use mathlib.Core.Path.{_≡_};
-ghost use Prim.Native.Nat.{suc, _+_, _-_, _≤_, _<_, min};
+ghost use Prim.Native.Nat.{suc, _+_, _-_, _<_, min};
 ghost use Rattle.base.specs.Choice.{pick};
 ghost use Rattle.base.specs.Sets.{has, put};
 ghost use Rattle.online.specs.Rules.{lasts, kept, uses, stands, next-use, seconds, accept};
@@ -34,7 +34,7 @@ struct Served {
 
 // The first number less the second, and 0 where that is greater.
 fn minus(a: u32, b: u32) -> u32
-    ensures { λ r. ⌜ (r ≡ a - b) × (r ≤ a) ⌝ }
+    ensures { λ r. ⌜ r ≡ a - b ⌝ }
 {
     if b <= a {
         return a - b;
@@ -44,7 +44,7 @@ fn minus(a: u32, b: u32) -> u32
 
 // The second, or the last second of a copy where that comes first.
 fn until(second: u32, used: u32, window: u32) -> u32
-    ensures { λ r. ⌜ (r ≡ min second (used + window)) × (r ≤ second) ⌝ }
+    ensures { λ r. ⌜ r ≡ min second (used + window) ⌝ }
 {
     if wide(second) <= expiry(used, window) {
         return second;

@@ -1,3 +1,4 @@
+-- `online::conditions::server_broken` meets its contract. Assumes nothing.
 use borrow.Author.Needs.{needs}
 use borrow.Author.Tests.{lt-ltb, le-ltb, le-leb, lt-leb, eq-eqb, ne-eqb}
 use mathlib.Core.Path.{sym}
@@ -6,45 +7,33 @@ use Rattle.online.specs.Conditions.{any-of, server-faults, server-broken
 use Rattle.online.specs.Rules.{copy-at}
 use Rattle.online.proofs.conditions.server_broken.Statement.{statement}
 use Rattle.online.proofs.conditions.server_broken.Tie as tie
-use Rattle.online.proofs.conditions.server_broken.Reads as reads
-use Rattle.online.proofs.conditions.server_broken.Lts as lts
-use Rattle.base.proofs.sets.has.Reads as has-reads
-use Rattle.online.proofs.state.expiry.Reads as expiry-reads
-use Rattle.online.proofs.state.wide.Reads as wide-reads
 
--- src/conditions.rt:44:9
 returns : tie.Need-returns
 unfolding server-broken
 returns c = λ s l u.
     sym (any-holds (server-faults s (c .before .before .args .y)) 1 (rw (← u, ← l .second) (lt-ltb _ _ (c .if1 .taken))))
 
--- src/conditions.rt:46:8
 has-requires : tie.Need-has-requires
 has-requires c κs = search needs
 
--- src/conditions.rt:48:13
 returns-2 : tie.Need-returns-2
 unfolding server-broken copy-at
 returns-2 c = λ s l u.
     let k = c .before .before in
     sym (any-holds (server-faults s (k .before .before .before .before .args .y)) 0 (rw (← l .holders, ← k .before .has .ensures, k .if2 .taken, ← l .server-count) (le-leb _ _ (c .if3 .taken))))
 
--- src/conditions.rt:51:13
 returns-3 : tie.Need-returns-3
 unfolding server-broken any-of copy-at
 returns-3 c = λ s l u.
     let k = c .before .before .before .before in
     rw (← u, ← l .holders, ← k .before .has .ensures, k .if2 .taken, ← l .server-count, lt-leb _ _ (c .before .before .if3 .left), ← l .second, le-ltb _ _ (k .before .before .if1 .left), ← l .last, eq-eqb _ _ (c .if4 .taken))
 
--- src/conditions.rt:53:16
 expiry-requires : tie.Need-expiry-requires
 expiry-requires c κs = search needs
 
--- src/conditions.rt:53:41
 wide-requires : tie.Need-wide-requires
 wide-requires c κs = search needs
 
--- src/conditions.rt:53:9
 returns-4 : tie.Need-returns-4
 unfolding server-broken any-of copy-at
 returns-4 c = λ s l u.
@@ -67,7 +56,6 @@ returns-4 c = λ s l u.
     )
     (sym (either-fails _))
 
--- src/conditions.rt:40:1
 returns-5 : tie.Need-returns-5
 unfolding server-broken any-of copy-at
 returns-5 c = λ s l u.

@@ -1,3 +1,4 @@
+-- `online::conditions::servers_broken` meets its contract. Assumes nothing.
 use borrow.Author.Needs.{needs}
 use mathlib.Core.Bool.{true, false}
 use mathlib.Core.Path.{_≡_, refl, sym, _∙_}
@@ -13,11 +14,6 @@ use Rattle.online.specs.Conditions.{server-broken}
 use Rattle.online.specs.ConditionLaws.{some-server-one}
 use Rattle.online.proofs.conditions.servers_broken.Statement.{statement}
 use Rattle.online.proofs.conditions.servers_broken.Tie as tie
-use Rattle.online.proofs.conditions.servers_broken.Reads as reads
-use Rattle.online.proofs.conditions.servers_broken.Lts as lts
-use Rattle.online.proofs.conditions.server_broken.Reads as server-broken-reads
-use Rattle.online.proofs.state.outline_of.Reads as outline-of-reads
-use Rattle.online.proofs.state.size.Reads as size-reads
 
 abbrev Inv-loop : tie.InvT-loop
 Inv-loop o last-use y₀ y =
@@ -26,32 +22,25 @@ Inv-loop o last-use y₀ y =
 abbrev μ-loop : tie.MeasureT-loop
 μ-loop o last-use y₀ y = 64 - y
 
--- src/conditions.rt:62:9
 outline-of-requires : tie.Need-outline-of-requires Inv-loop μ-loop
 outline-of-requires c κs = search needs
 
--- src/conditions.rt:65:5
 loop-holds : tie.Need-loop-holds Inv-loop μ-loop
 unfolding some-server
 loop-holds c = (search needs, search needs, λ s l e. refl)
 
--- src/conditions.rt:66:13
 size-requires : tie.Need-size-requires Inv-loop μ-loop
 size-requires c κs = search needs
 
--- src/conditions.rt:67:29
 mul-server-broken : tie.Need-mul-server-broken Inv-loop μ-loop
 mul-server-broken c = search needs
 
--- src/conditions.rt:67:29
 array-read-server-broken : tie.Need-array-read-server-broken Inv-loop μ-loop
 array-read-server-broken c = search needs
 
--- src/conditions.rt:67:12
 server-broken-requires : tie.Need-server-broken-requires Inv-loop μ-loop
 server-broken-requires c κs = search needs
 
--- src/conditions.rt:68:13
 returns : tie.Need-returns Inv-loop μ-loop
 unfolding use-at
 returns c =
@@ -61,25 +50,24 @@ returns c =
     let e : server-broken (a .cache) y ≡ true = sym (c .before .server-broken .ensures (a .cache) (k .before .before .outline-of .ensures) (rw (c .before .before .size .ensures))) ∙ c .if1 .taken in
     sym (some-server-one 64 (server-broken (a .cache)) y (omega arith) e)
 
--- src/conditions.rt:70:9
 add-y : tie.Need-add-y Inv-loop μ-loop
 add-y c = search needs
 
--- src/conditions.rt:65:5
 loop-less : tie.Need-loop-less Inv-loop μ-loop
 loop-less c = search needs
 
--- src/conditions.rt:65:5
 loop-again : tie.Need-loop-again Inv-loop μ-loop
 unfolding some-server use-at
 loop-again c =
     let k = c .before .before .before .before in
-    let y = k .loop .y in
-    (search needs, search needs, λ s l u.
-      let e : server-broken s y ≡ false = sym (c .before .server-broken .ensures s l (rw (c .before .before .size .ensures, u))) ∙ c .if1 .left in
-      rw (add-one y, e) (k .loop .inv .2 s l u))
+    let y = k .loop .y in (
+      search needs,
+      search needs,
+      λ s l u.
+          let e : server-broken s y ≡ false = sym (c .before .server-broken .ensures s l (rw (c .before .before .size .ensures, u))) ∙ c .if1 .left in
+          rw (add-one y, e) (k .loop .inv .2 s l u),
+    )
 
--- src/conditions.rt:59:1
 returns-2 : tie.Need-returns-2 Inv-loop μ-loop
 returns-2 c =
     let l = c .before .loop in

@@ -1,7 +1,8 @@
+-- `online::scan::accept` meets its contract. Assumes nothing.
 use borrow.Author.Needs.{needs}
 use borrow.Author.Tests.{lt-ltb}
 use mathlib.Core.Bool.{false}
-use mathlib.Core.Path.{_≡_, refl, sym, ap, _∙_}
+use mathlib.Core.Path.{_≡_, refl, ap, _∙_}
 use Prim.Native.Nat.{ℕ, _+_, _<_, _^_}
 use native.Mathlib.Omega.{arith}
 use native.Mathlib.Numerals.{add-one}
@@ -15,17 +16,6 @@ use Rattle.online.specs.Walk.{given, list-first, list-next, list-last, s
 use Rattle.online.specs.Untouched.{Untouched, untouched, no-next-use, no-stand, no-seconds, seconds-most}
 use Rattle.online.proofs.scan.accept.Statement.{statement}
 use Rattle.online.proofs.scan.accept.Tie as tie
-use Rattle.online.proofs.scan.accept.Reads as reads
-use Rattle.online.proofs.scan.accept.Lts as lts
-use Rattle.base.proofs.sets.cut.Reads as cut-reads
-use Rattle.base.proofs.sets.put.Reads as put-reads
-use Rattle.online.proofs.scan.member.Reads as member-reads
-use Rattle.online.proofs.scan.next_transfers.Reads as next-transfers-reads
-use Rattle.online.proofs.scan.next_use.Reads as next-use-reads
-use Rattle.online.proofs.scan.put_if.Reads as put-if-reads
-use Rattle.online.proofs.scan.seconds.Reads as seconds-reads
-use Rattle.online.proofs.scan.stands.Reads as stands-reads
-use Rattle.online.proofs.state.size.Reads as size-reads
 
 abbrev Inv-loop : tie.InvT-loop
 Inv-loop cache o q before left₀ last-use₀ holders₀ held₀ left last-use holders held =
@@ -37,11 +27,9 @@ Inv-loop cache o q before left₀ last-use₀ holders₀ held₀ left last-use h
 abbrev μ-loop : tie.MeasureT-loop
 μ-loop cache o q before left₀ last-use₀ holders₀ held₀ left last-use holders held = members 64 left
 
--- src/scan.rt:161:9
 put-requires : tie.Need-put-requires Inv-loop μ-loop
 put-requires c κs = search needs
 
--- src/scan.rt:165:5
 loop-holds : tie.Need-loop-holds Inv-loop μ-loop
 loop-holds c =
     let a = c .before .before .args in
@@ -55,47 +43,36 @@ loop-holds c =
       sum-first 64 (c .put .result) (seconds (a .cache) (a .q .second)) (λ y h. no-seconds (a .cache) (a .q .second) (a .q .server) y (idle y h)),
     )
 
--- src/scan.rt:166:13
 member-requires : tie.Need-member-requires Inv-loop μ-loop
 member-requires c κs = search needs
 
--- src/scan.rt:167:13
 size-requires : tie.Need-size-requires Inv-loop μ-loop
 size-requires c κs = search needs
 
--- src/scan.rt:168:20
 mul-used : tie.Need-mul-used Inv-loop μ-loop
 mul-used c = search needs
 
--- src/scan.rt:168:20
 array-read-used : tie.Need-array-read-used Inv-loop μ-loop
 array-read-used c = search needs
 
--- src/scan.rt:169:24
 next-use-requires : tie.Need-next-use-requires Inv-loop μ-loop
 next-use-requires c κs = search needs
 
--- src/scan.rt:169:9
 mul-last-use : tie.Need-mul-last-use Inv-loop μ-loop
 mul-last-use c = search needs
 
--- src/scan.rt:169:9
 array-write-last-use : tie.Need-array-write-last-use Inv-loop μ-loop
 array-write-last-use c = search needs
 
--- src/scan.rt:170:35
 stands-requires : tie.Need-stands-requires Inv-loop μ-loop
 stands-requires c κs = search needs
 
--- src/scan.rt:170:9
 put-if-requires : tie.Need-put-if-requires Inv-loop μ-loop
 put-if-requires c κs = search needs
 
--- src/scan.rt:171:16
 seconds-requires : tie.Need-seconds-requires Inv-loop μ-loop
 seconds-requires c κs = search needs
 
--- src/scan.rt:171:16
 add-held : tie.Need-add-held Inv-loop μ-loop
 unfolding use-at
 add-held c =
@@ -116,17 +93,14 @@ add-held c =
     ) in
     search needs
 
--- src/scan.rt:172:9
 cut-requires : tie.Need-cut-requires Inv-loop μ-loop
 cut-requires c κs = search needs
 
--- src/scan.rt:165:5
 loop-less : tie.Need-loop-less Inv-loop μ-loop
 loop-less c =
     let k = c .before .before .before .before .before .before in
     omega (arith, ap (members 64) (c .cut .ensures), members-cut 64 (k .before .before .loop .left) (k .member .result) (k .member .ensures .1) (k .member .ensures .0))
 
--- src/scan.rt:165:5
 loop-again : tie.Need-loop-again Inv-loop μ-loop
 unfolding use-at
 loop-again c =
@@ -141,22 +115,25 @@ loop-again c =
     let h = seconds (a .cache) (a .q .second) in
     let used : c .before .before .before .before .next-use .result ≡ f y = c .before .before .before .before .next-use .ensures (a .cache) (p .0) (rw i) (p .1) in
     let copy : c .before .before .before .stands .result ≡ g y = c .before .before .before .stands .ensures (a .cache) (p .0) (rw i) (p .1) in
-    let held : c .before .seconds .result ≡ h y = c .before .seconds .ensures (a .cache) (p .0) (rw i) in (
+    let held : c .before .seconds .result ≡ h y = c .before .seconds .ensures (a .cache) (p .0) (rw i) in
+    let all : c .before .seconds .result + l .held ≡ across 64 (given 0 (cut (l .left) y) h) = omega (
+      arith,
+      held,
+      l .inv .3,
+      sum-next 64 (l .left) h y (k .member .ensures .1) (k .member .ensures .0),
+    ) in (
       simp length-set (l .inv .0),
       rw (c .cut .ensures, used, i, l .inv .1) (list-next 64 (l .left) f y),
       rw (c .cut .ensures, c .before .before .put-if .ensures, copy, l .inv .2) (set-next 64 (l .left) g y (k .member .ensures .1) (k .member .ensures .0)),
-      rw (c .cut .ensures, held, l .inv .3) (sum-next 64 (l .left) h y (k .member .ensures .1) (k .member .ensures .0)),
+      rw (c .cut .ensures) all,
     )
 
--- src/scan.rt:181:19
 add-t20 : tie.Need-add-t20 Inv-loop μ-loop
 add-t20 c = search needs
 
--- src/scan.rt:182:20
 next-transfers-requires : tie.Need-next-transfers-requires Inv-loop μ-loop
 next-transfers-requires c κs = search needs
 
--- src/scan.rt:183:15
 add-t22 : tie.Need-add-t22 Inv-loop μ-loop
 add-t22 c =
     let l = c .before .before .before .before .loop in
@@ -171,7 +148,6 @@ add-t22 c =
     ) in
     search needs
 
--- src/scan.rt:156:1
 returns : tie.Need-returns Inv-loop μ-loop
 unfolding accept
 returns c =

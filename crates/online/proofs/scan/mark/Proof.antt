@@ -1,3 +1,4 @@
+-- `online::scan::mark` meets its contract. Assumes nothing.
 use Rattle.online.specs.Answers.{mark-outcome}
 use Rattle.online.proofs.scan.mark.Statement.{statement}
 use Rattle.online.proofs.scan.mark.Tie as tie

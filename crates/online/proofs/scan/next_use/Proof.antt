@@ -1,3 +1,4 @@
+-- `online::scan::next_use` meets its contract. Assumes nothing.
 use borrow.Author.Needs.{needs}
 use Rattle.online.specs.Rules.{next-use}
 use Rattle.online.proofs.scan.next_use.Statement.{statement}

@@ -1,3 +1,4 @@
+-- `online::scan::stands` meets its contract. Assumes nothing.
 use borrow.Author.Needs.{needs}
 use Rattle.online.specs.Rules.{stands}
 use Rattle.online.proofs.scan.stands.Statement.{statement}

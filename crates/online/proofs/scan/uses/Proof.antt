@@ -1,3 +1,4 @@
+-- `online::scan::uses` meets its contract. Assumes nothing.
 use borrow.Author.Tests.{eq-eqb, ne-eqb}
 use Rattle.online.specs.Rules.{uses}
 use Rattle.online.proofs.scan.uses.Statement.{statement}
