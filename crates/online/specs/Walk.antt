@@ -1,14 +1,13 @@
 -- The servers of a set taken one after the other, in any order: what each gives stands in place once it is taken. Assumes nothing.
 use mathlib.Core.Bool.{Bool, true, false}
-use mathlib.Core.List.{List}
 use mathlib.Core.Logic.{_⊎_, inl, inr, _≢_}
-use mathlib.Core.Path.{_≡_, refl, sym, ap, _∙_}
+use mathlib.Core.Path.{_≡_, refl, sym, _∙_}
 use native.Mathlib.Nat.{pow-suc}
 use native.Mathlib.Omega.{arith}
 use Prim.Native.Nat.{ℕ, zero, suc, _+_, _*_, _^_, _≤_, _<_}
-use lib.ListN.{length, getD, set, replicate, length-set}
+use lib.ListN.{getD, set, replicate, length-set}
 use lib.Seq.{ext-getD, getD-set-same, getD-set-other}
-use Rattle.base.specs.Choice.{pick, same-or-not, le-or-lt, not-both}
+use Rattle.base.specs.Choice.{pick, same-or-not, le-or-lt}
 use Rattle.base.specs.Sets.{has, put, cut, lowest}
 use Rattle.base.specs.SetLaws.{has-none, has-put, has-put-other, has-cut, has-cut-other, put-under, same-members}
 use Rattle.base.specs.LowestLaws.{lowest-is}
@@ -31,7 +30,7 @@ module _ {A : Type 0} (none : A) where
   given left f y = pick (has left y) none (f y)
 
   -- a server that is left
-  pub given-left : (left : ℕ) (f : ℕ → A) (y : ℕ) → has left y ≡ true → given left f y ≡ none
+  given-left : (left : ℕ) (f : ℕ → A) (y : ℕ) → has left y ≡ true → given left f y ≡ none
   unfolding given
   given-left left f y h = rw h
 
@@ -41,7 +40,7 @@ module _ {A : Type 0} (none : A) where
   given-taken left f y h = rw h
 
   -- at first, where no other server gives anything
-  pub given-first : (left : ℕ) (f : ℕ → A) (y : ℕ) → (has left y ≡ false → f y ≡ none) → given left f y ≡ none
+  given-first : (left : ℕ) (f : ℕ → A) (y : ℕ) → (has left y ≡ false → f y ≡ none) → given left f y ≡ none
   given-first left f y h = go (has left y) refl
     where
       go : (b : Bool) → has left y ≡ b → given left f y ≡ none
@@ -49,16 +48,16 @@ module _ {A : Type 0} (none : A) where
       go false e = given-taken left f y e ∙ h e
 
   -- y is taken
-  pub given-cut : (left : ℕ) (f : ℕ → A) (y : ℕ) → given (cut left y) f y ≡ f y
+  given-cut : (left : ℕ) (f : ℕ → A) (y : ℕ) → given (cut left y) f y ≡ f y
   given-cut left f y = given-taken (cut left y) f y (has-cut left y)
 
   -- and nothing else changes
-  pub given-other : (left : ℕ) (f : ℕ → A) (y k : ℕ) → k ≢ y → given (cut left y) f k ≡ given left f k
+  given-other : (left : ℕ) (f : ℕ → A) (y k : ℕ) → k ≢ y → given (cut left y) f k ≡ given left f k
   unfolding given
   given-other left f y k d = rw (has-cut-other left y k d)
 
   -- in the end
-  pub given-last : (f : ℕ → A) (y : ℕ) → given 0 f y ≡ f y
+  given-last : (f : ℕ → A) (y : ℕ) → given 0 f y ≡ f y
   given-last f y = given-taken 0 f y (has-none y)
 
 -- ---- a list

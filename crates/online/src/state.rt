@@ -39,7 +39,7 @@ pub fn size(x: u16) -> usize
 }
 
 // The window of the state's class.
-pub fn window_of(cache: Cache) -> u32
+fn window_of(cache: Cache) -> u32
     ensures { λ r. ⌜ r ≡ window-of cache ⌝ }
 {
     window(of_class(cache.class))
