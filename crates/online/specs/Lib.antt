@@ -9,6 +9,7 @@ pub mod History
 pub mod ServerLaws
 pub mod ConditionLaws
 pub mod StartLaws
+pub mod Walk
 pub mod HistoryLaws
 pub mod Seconds
 pub mod Potential
@@ -19,6 +20,7 @@ pub mod Agreement
 pub mod Sound
 pub mod Widths
 pub mod Passed
+pub mod Untouched
 pub mod CallLaws
 pub mod Follows
 pub mod Reached

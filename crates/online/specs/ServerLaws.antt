@@ -17,11 +17,6 @@ use Rattle.online.specs.Servers.{across, set-of, some-server}
 
 -- ---- sums
 
--- one server more
-pub across-suc : (n : ℕ) (f : ℕ → ℕ) → across (suc n) f ≡ f n + across n f
-unfolding across sum
-across-suc n f = refl
-
 -- server by server no more
 pub across-le : (n : ℕ) (f g : ℕ → ℕ) → ((y : ℕ) → y < n → f y ≤ g y) → across n f ≤ across n g
 unfolding across

@@ -3,18 +3,21 @@ ghost use mathlib.Core.Path.{_≡_};
 ghost use lib.Dec.{ltb, eqb};
 ghost use Rattle.base.specs.Choice.{either};
 ghost use Rattle.online.specs.Servers.{some-server};
-ghost use Rattle.online.specs.Rules.{window-of};
 ghost use Rattle.online.specs.Conditions.{server-broken, broken};
 ghost use Rattle.online.specs.Answers.{scan-verdict, close-verdict};
+ghost use Rattle.online.specs.Serving.{With-use};
 use crate::Cache;
+use crate::state::Outline;
 use crate::state::copy_at;
 use crate::state::expiry;
 use crate::state::half;
+use crate::state::outline_of;
+use crate::state::size;
 use crate::state::use_at;
 use crate::state::wide;
-use crate::state::window_of;
 use base::Verdict;
 use base::refusals::or_else;
+use base::sets::has;
 
 // A number is 0, or above the most that is allowed.
 fn outside(x: u32, most: u32) -> bool
@@ -34,22 +37,20 @@ fn count_outside(count: u8) -> bool
 }
 
 // Server y is at fault: a copy at or above the count, a last use after the last second, a copy expired before it, or a last use without a copy.
-fn server_broken(cache: Cache, window: u32, y: u16) -> bool
-    requires { ⌜ window ≡ window-of cache ⌝ }
-    ensures { λ r. ⌜ r ≡ server-broken cache y ⌝ }
+fn server_broken(o: Outline, used: u32, y: u16) -> bool
+    ensures { λ r. ⌜ With-use o used y (λ c. r ≡ server-broken c y) ⌝ }
 {
-    let used = use_at(cache, y);
-    if cache.second < used {
+    if o.second < used {
         return true;
     }
-    if copy_at(cache, y) {
-        if half(cache.server_count) <= y {
+    if has(o.holders, y) {
+        if o.server_count <= y {
             return true;
         }
-        if y == cache.last {
+        if y == o.last {
             return false;
         }
-        return expiry(used, window) < wide(cache.second);
+        return expiry(used, o.window) < wide(o.second);
     }
     used != 0
 }
@@ -58,10 +59,12 @@ fn server_broken(cache: Cache, window: u32, y: u16) -> bool
 fn servers_broken(cache: Cache) -> bool
     ensures { λ r. ⌜ r ≡ some-server 64 (server-broken cache) ⌝ }
 {
-    let window = window_of(cache);
+    let o = outline_of(cache);
+    let last_use = cache.last_use;
     let mut y: u16 = 0;
     while y < 64 {
-        if server_broken(cache, window, y) {
+        let at = size(y);
+        if server_broken(o, last_use[at], y) {
             return true;
         }
         y += 1;

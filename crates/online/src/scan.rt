@@ -1,43 +1,40 @@
 // A scan: one request at a second and a server, by the rules of 01's 'The live keeper'.
+ghost use mathlib.Core.Bool.{true};
+ghost use mathlib.Core.Logic.{_≢_};
 ghost use mathlib.Core.Path.{_≡_};
-ghost use Prim.Native.Nat.{suc, _+_, _-_, _≤_, _<_, min};
+ghost use Prim.Native.Nat.{suc, _+_, _-_, _<_, min};
 ghost use Rattle.base.specs.Choice.{pick};
-ghost use Rattle.base.specs.Sets.{put};
-ghost use Rattle.base.specs.Lists.{build};
-ghost use Rattle.online.specs.Servers.{across, set-of};
-ghost use Rattle.online.specs.Rules.{window-of, lasts, kept, uses, stands, next-use, seconds, accept};
+ghost use Rattle.base.specs.Sets.{has, put};
+ghost use Rattle.online.specs.Rules.{lasts, kept, uses, stands, next-use, seconds, accept};
 ghost use Rattle.online.specs.Passed.{Fit};
-ghost use Rattle.online.specs.Serving.{Serves};
+ghost use Rattle.online.specs.Serving.{Outlines, Serves, With-use, With-mark};
 ghost use Rattle.online.specs.Answers.{mark-outcome, scanned};
 use crate::Cache;
 use crate::ScanOutcome;
 use crate::Scanned;
 use crate::conditions::scan_fault;
-use crate::state::copy_at;
+use crate::state::Outline;
 use crate::state::expiry;
+use crate::state::outline_of;
+use crate::state::size;
 use crate::state::use_at;
 use crate::state::wide;
-use crate::state::window_of;
 use base::Verdict;
+use base::sets::cut;
+use base::sets::has;
+use base::sets::lowest;
 use base::sets::put;
 
-// A request while it is served: its second and server, the window of the state's class, and whether it is K.
+// A request while it is served: its second and server, and whether it is K.
 struct Served {
     second: u32,
     server: u16,
-    window: u32,
     kept: bool,
-}
-
-fn size(x: u16) -> usize
-    ensures { λ r. ⌜ r ≡ x ⌝ }
-{
-    x as usize
 }
 
 // The first number less the second, and 0 where that is greater.
 fn minus(a: u32, b: u32) -> u32
-    ensures { λ r. ⌜ (r ≡ a - b) × (r ≤ a) ⌝ }
+    ensures { λ r. ⌜ r ≡ a - b ⌝ }
 {
     if b <= a {
         return a - b;
@@ -47,7 +44,7 @@ fn minus(a: u32, b: u32) -> u32
 
 // The second, or the last second of a copy where that comes first.
 fn until(second: u32, used: u32, window: u32) -> u32
-    ensures { λ r. ⌜ (r ≡ min second (used + window)) × (r ≤ second) ⌝ }
+    ensures { λ r. ⌜ r ≡ min second (used + window) ⌝ }
 {
     if wide(second) <= expiry(used, window) {
         return second;
@@ -56,31 +53,28 @@ fn until(second: u32, used: u32, window: u32) -> u32
 }
 
 // A copy stands at y and has a use at most one window before the second: at its last second it still stands.
-fn lasts(cache: Cache, window: u32, second: u32, y: u16) -> bool
-    requires { ⌜ window ≡ window-of cache ⌝ }
-    ensures { λ r. ⌜ r ≡ lasts cache second y ⌝ }
+fn lasts(o: Outline, used: u32, second: u32, y: u16) -> bool
+    ensures { λ r. ⌜ With-use o used y (λ c. r ≡ lasts c second y) ⌝ }
 {
-    if copy_at(cache, y) {
-        return wide(second) <= expiry(use_at(cache, y), window);
+    if has(o.holders, y) {
+        return wide(second) <= expiry(used, o.window);
     }
     false
 }
 
 // The request is K: at the last server, or at one whose copy lasts.
-fn kept(cache: Cache, window: u32, second: u32, server: u16) -> bool
-    requires { ⌜ window ≡ window-of cache ⌝ }
-    ensures { λ r. ⌜ r ≡ kept cache second server ⌝ }
+fn kept(o: Outline, used: u32, second: u32, server: u16) -> bool
+    ensures { λ r. ⌜ With-use o used server (λ c. r ≡ kept c second server) ⌝ }
 {
-    if server == cache.last {
+    if server == o.last {
         return true;
     }
-    lasts(cache, window, second, server)
+    lasts(o, used, second, server)
 }
 
 // The request uses the copy at y: at its own server, and, if it is S, at the last server, from which it is sent.
-fn uses(cache: Cache, q: Served, y: u16) -> bool
-    requires { ⌜ Serves cache q ⌝ }
-    ensures { λ r. ⌜ r ≡ uses cache (q .second) (q .server) y ⌝ }
+fn uses(o: Outline, q: Served, y: u16) -> bool
+    ensures { λ r. ⌜ With-mark o q (λ c. r ≡ uses c (q .second) (q .server) y) ⌝ }
 {
     if y == q.server {
         return true;
@@ -88,47 +82,44 @@ fn uses(cache: Cache, q: Served, y: u16) -> bool
     if q.kept {
         return false;
     }
-    y == cache.last
+    y == o.last
 }
 
 // A copy stands at y after the request: one that it uses, or one that has not expired.
-fn stands(cache: Cache, q: Served, y: u16) -> bool
-    requires { ⌜ Serves cache q ⌝ }
-    ensures { λ r. ⌜ r ≡ stands cache (q .second) (q .server) y ⌝ }
+fn stands(o: Outline, q: Served, used: u32, y: u16) -> bool
+    ensures { λ r. ⌜ With-use o used y (λ c. Serves c q → r ≡ stands c (q .second) (q .server) y) ⌝ }
 {
-    if uses(cache, q, y) {
+    if uses(o, q, y) {
         return true;
     }
-    lasts(cache, q.window, q.second, y)
+    lasts(o, used, q.second, y)
 }
 
 // The last use of y after the request, 0 where no copy stands.
-fn next_use(cache: Cache, q: Served, y: u16) -> u32
-    requires { ⌜ Serves cache q ⌝ }
-    ensures { λ r. ⌜ r ≡ next-use cache (q .second) (q .server) y ⌝ }
+fn next_use(o: Outline, q: Served, used: u32, y: u16) -> u32
+    ensures { λ r. ⌜ With-use o used y (λ c. Serves c q → r ≡ next-use c (q .second) (q .server) y) ⌝ }
 {
-    if uses(cache, q, y) {
+    if uses(o, q, y) {
         return q.second;
     }
-    if stands(cache, q, y) {
-        return use_at(cache, y);
+    if stands(o, q, used, y) {
+        return used;
     }
     0
 }
 
 // The seconds that y held since the last request: the last server up to this one, any other up to its last use plus the window.
-fn seconds(cache: Cache, q: Served, y: u16) -> u32
-    requires { ⌜ Serves cache q ⌝ }
-    ensures { λ r. ⌜ (r ≡ seconds cache (q .second) y) × (r ≤ q .second) ⌝ }
+fn seconds(o: Outline, used: u32, second: u32, y: u16) -> u32
+    ensures { λ r. ⌜ With-use o used y (λ c. r ≡ seconds c second y) ⌝ }
 {
-    if y == cache.last {
-        return minus(q.second, cache.second);
+    if y == o.last {
+        return minus(second, o.second);
     }
-    if !copy_at(cache, y) {
+    if !has(o.holders, y) {
         return 0;
     }
-    let end = until(q.second, use_at(cache, y), q.window);
-    minus(end, cache.second)
+    let end = until(second, used, o.window);
+    minus(end, o.second)
 }
 
 // The set with y, where a test holds.
@@ -142,47 +133,12 @@ fn put_if(set: u64, holds: bool, y: u16) -> u64
     set
 }
 
-// The last use of each server after the request.
-fn next_uses(cache: Cache, q: Served) -> [u32; 64]
-    requires { ⌜ Serves cache q ⌝ }
-    ensures { λ r. ⌜ r ≡ build 64 (next-use cache (q .second) (q .server)) ⌝ }
+// A member of a set that has one: the lowest.
+fn member(set: u64) -> u16
+    requires { ⌜ set ≢ 0 ⌝ }
+    ensures { λ r. ⌜ (has set r ≡ true) × (r < 64) ⌝ }
 {
-    let mut last_use = [0u32; 64];
-    let mut y: u16 = 0;
-    while y < 64 {
-        let at = size(y);
-        last_use[at] = next_use(cache, q, y);
-        y += 1;
-    }
-    last_use
-}
-
-// The servers where a copy stands after the request.
-fn next_holders(cache: Cache, q: Served) -> u64
-    requires { ⌜ Serves cache q ⌝ }
-    ensures { λ r. ⌜ r ≡ set-of 64 (stands cache (q .second) (q .server)) ⌝ }
-{
-    let mut holders: u64 = 0;
-    let mut y: u16 = 0;
-    while y < 64 {
-        holders = put_if(holders, stands(cache, q, y), y);
-        y += 1;
-    }
-    holders
-}
-
-// The seconds that all servers held since the last request.
-fn all_seconds(cache: Cache, q: Served) -> u32
-    requires { ⌜ Serves cache q × (q .second ≤ 4000000) ⌝ }
-    ensures { λ r. ⌜ (r ≡ across 64 (seconds cache (q .second))) × (r ≤ 256000000) ⌝ }
-{
-    let mut held: u32 = 0;
-    let mut y: u16 = 0;
-    while y < 64 {
-        held = seconds(cache, q, y) + held;
-        y += 1;
-    }
-    held
+    lowest(set) as u16
 }
 
 // The transfers after the request: one more if it is S.
@@ -196,35 +152,47 @@ fn next_transfers(transfers: u32, kept: bool) -> u32
     transfers + 1
 }
 
-// The next state.
-fn accept(cache: Cache, q: Served) -> Cache
-    requires { ⌜ Serves cache q × Fit cache (q .second) (q .server) ⌝ }
+// The next state. No server has anything to add but the holders and the request's own.
+fn accept(cache: Cache, o: Outline, q: Served) -> Cache
+    requires { ⌜ Outlines cache o × Serves cache q × Fit cache (q .second) (q .server) ⌝ }
     ensures { λ r. ⌜ r ≡ accept cache (q .second) (q .server) ⌝ }
 {
-    let last_use = next_uses(cache, q);
+    let before = cache.last_use;
+    let mut left = put(o.holders, q.server);
+    let mut last_use = [0u32; 64];
+    let mut holders: u64 = 0;
+    let mut held: u32 = 0;
+    while left != 0 {
+        let y = member(left);
+        let at = size(y);
+        let used = before[at];
+        last_use[at] = next_use(o, q, used, y);
+        holders = put_if(holders, stands(o, q, used, y), y);
+        held = seconds(o, used, q.second, y) + held;
+        left = cut(left, y);
+    }
     Cache {
         class: cache.class,
         server_count: cache.server_count,
         last: q.server,
         second: q.second,
         last_use,
-        holders: next_holders(cache, q),
+        holders,
         requests: cache.requests + 1,
         transfers: next_transfers(cache.transfers, q.kept),
-        held: cache.held + all_seconds(cache, q),
+        held: cache.held + held,
         closed: cache.closed,
     }
 }
 
 // K, or S from the last server.
-fn mark(cache: Cache, q: Served) -> ScanOutcome
-    requires { ⌜ Serves cache q ⌝ }
-    ensures { λ r. ⌜ r ≡ mark-outcome cache (q .second) (q .server) ⌝ }
+fn mark(o: Outline, q: Served) -> ScanOutcome
+    ensures { λ r. ⌜ With-mark o q (λ c. r ≡ mark-outcome c (q .second) (q .server)) ⌝ }
 {
     if q.kept {
         return ScanOutcome::Kept;
     }
-    ScanOutcome::Sent(cache.last)
+    ScanOutcome::Sent(o.last)
 }
 
 impl Cache {
@@ -239,17 +207,17 @@ impl Cache {
                 outcome: ScanOutcome::Refused(r),
             };
         }
-        let window = window_of(self);
+        let o = outline_of(self);
+        let used = use_at(self, server);
         let q = Served {
             second,
             server,
-            window,
-            kept: kept(self, window, second, server),
+            kept: kept(o, used, second, server),
         };
-        let cache = accept(self, q);
+        let cache = accept(self, o, q);
         Scanned {
             cache,
-            outcome: mark(self, q),
+            outcome: mark(o, q),
         }
     }
 }

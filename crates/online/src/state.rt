@@ -2,10 +2,20 @@
 ghost use mathlib.Core.Path.{_≡_};
 ghost use Prim.Native.Nat.{_+_, _<_, _^_};
 ghost use Rattle.online.specs.Rules.{window-of, copy-at, use-at};
+ghost use Rattle.online.specs.Serving.{Outlines};
 use crate::Cache;
 use base::sets::has;
 use prices::of_class;
 use prices::window;
+
+// What a state says of all its servers at once: no last uses.
+pub struct Outline {
+    pub server_count: u16,
+    pub last: u16,
+    pub second: u32,
+    pub holders: u64,
+    pub window: u32,
+}
 
 // A number of 32 bits, as a wider one.
 pub fn wide(x: u32) -> u64
@@ -21,11 +31,31 @@ pub fn half(x: u8) -> u16
     x as u16
 }
 
+// A server's number, as an index.
+pub fn size(x: u16) -> usize
+    ensures { λ r. ⌜ r ≡ x ⌝ }
+{
+    x as usize
+}
+
 // The window of the state's class.
-pub fn window_of(cache: Cache) -> u32
+fn window_of(cache: Cache) -> u32
     ensures { λ r. ⌜ r ≡ window-of cache ⌝ }
 {
     window(of_class(cache.class))
+}
+
+// The outline of a state.
+pub fn outline_of(cache: Cache) -> Outline
+    ensures { λ r. ⌜ Outlines cache r ⌝ }
+{
+    Outline {
+        server_count: half(cache.server_count),
+        last: cache.last,
+        second: cache.second,
+        holders: cache.holders,
+        window: window_of(cache),
+    }
 }
 
 // Does a copy stand at server y?

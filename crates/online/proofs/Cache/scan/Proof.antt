@@ -19,23 +19,39 @@ returns c = rw (← c .before .before .before .scan-fault .ensures, c .before .v
 enum-told : tie.Need-enum-told
 enum-told c = search needs
 
-window-of-requires : tie.Need-window-of-requires
-window-of-requires c κs = search needs
+outline-of-requires : tie.Need-outline-of-requires
+outline-of-requires c κs = search needs
+
+use-at-requires : tie.Need-use-at-requires
+use-at-requires c κs = search needs
 
 kept-requires : tie.Need-kept-requires
 kept-requires c κs = search needs
 
 accept-requires : tie.Need-accept-requires
 accept-requires c κs =
-    let a = c .before .before .before .before .before .args in
-    (search needs, scan-passed (a .self) (a .second) (a .server) (sym (c .before .before .before .before .scan-fault .ensures) ∙ c .before .before .enum-told .given .1))
+    let o = c .before .before in
+    let a = o .before .before .before .before .args in (
+      o .outline-of .ensures,
+      record { mark = c .kept .ensures (a .self) (o .outline-of .ensures) (c .before .use-at .ensures) },
+      scan-passed (a .self) (a .second) (a .server) (sym (o .before .before .before .scan-fault .ensures) ∙ o .before .enum-told .given .1),
+    )
 
 mark-requires : tie.Need-mark-requires
 mark-requires c κs = search needs
 
 returns-2 : tie.Need-returns-2
 unfolding scanned scanned-by
-returns-2 c = rw (← c .before .before .before .before .before .before .scan-fault .ensures, c .before .before .before .before .enum-told .given .1, c .mark .ensures, c .before .accept .ensures)
+returns-2 c =
+    let k = c .before .before in
+    let o = k .before .before in
+    let a = o .before .before .before .before .args in
+    rw (
+      ← o .before .before .before .scan-fault .ensures,
+      o .before .enum-told .given .1,
+      c .mark .ensures (a .self) (o .outline-of .ensures) (record { mark = k .kept .ensures (a .self) (o .outline-of .ensures) (k .before .use-at .ensures) }),
+      c .before .accept .ensures,
+    )
 
 pub scan-spec : {M : Type 1} → statement M
 scan-spec =
@@ -45,7 +61,8 @@ scan-spec =
     enum-known-v
     returns
     enum-told
-    window-of-requires
+    outline-of-requires
+    use-at-requires
     kept-requires
     accept-requires
     mark-requires

@@ -9,22 +9,18 @@ uses-requires c κs = search needs
 
 returns : tie.Need-returns
 unfolding next-use
-returns c = rw (← c .before .uses .ensures, c .if1 .taken)
+returns c = λ s l u m. rw (← c .before .uses .ensures s l m, c .if1 .taken)
 
 stands-requires : tie.Need-stands-requires
 stands-requires c κs = search needs
 
-use-at-requires : tie.Need-use-at-requires
-use-at-requires c κs = search needs
-
 returns-2 : tie.Need-returns-2
 unfolding next-use
-returns-2 c = rw (← c .before .before .before .before .uses .ensures, c .before .before .before .if1 .left, ← c .before .before .stands .ensures, c .before .if2 .taken) (c .use-at .ensures)
+returns-2 c = λ s l u m. rw (← c .before .before .before .uses .ensures s l m, c .before .before .if1 .left, ← c .before .stands .ensures s l u m, c .if2 .taken) u
 
 returns-3 : tie.Need-returns-3
 unfolding next-use
-returns-3 c = rw (← c .before .before .before .uses .ensures, c .before .before .if1 .left, ← c .before .stands .ensures, c .if2 .left)
+returns-3 c = λ s l u m. rw (← c .before .before .before .uses .ensures s l m, c .before .before .if1 .left, ← c .before .stands .ensures s l u m, c .if2 .left)
 
 pub next-use-spec : {M : Type 1} → statement M
-next-use-spec =
-    tie.close (tie.spec uses-requires returns stands-requires use-at-requires returns-2 returns-3)
+next-use-spec = tie.close (tie.spec uses-requires returns stands-requires returns-2 returns-3)
