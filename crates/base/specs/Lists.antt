@@ -102,5 +102,5 @@ splice-length at xs o = go (le-or-lt (at + length xs) (length o))
 pub every-at : {A : Type 0} (f : A → Bool) (xs : List A) (d : A) (k : ℕ) → every f xs ≡ true → k < length xs → f (getD xs k d) ≡ true
 unfolding every
 every-at f [] d k e l = absurd (omega arith)
-every-at f (x ∷ xs) d zero e l = both-true (f x) (every f xs) .0 e .0
-every-at f (x ∷ xs) d (suc k) e l = every-at f xs d k (both-true (f x) (every f xs) .0 e .1) (omega arith)
+every-at f (x ∷ xs) d zero e l = both-true (f x) (every f xs) e .0
+every-at f (x ∷ xs) d (suc k) e l = every-at f xs d k (both-true (f x) (every f xs) e .1) (omega arith)

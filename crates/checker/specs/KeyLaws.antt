@@ -10,7 +10,7 @@ use lib.Dec.{leb, ltb, eqb}
 use borrow.Author.Tests.{ltb-true, leb-true, leb-false, eqb-true, le-leb, lt-leb}
 use Rattle.base.specs.Choice.{both, either, le-or-lt, same-or-not, not-both}
 use Rattle.base.specs.LowestLaws.{Lowest}
-use Rattle.model.specs.BothLaws.{both-true, either-true}
+use Rattle.base.specs.ChoiceLaws.{both-true, either-true}
 use Rattle.model.specs.Schedule.{Row, hold, move, Move, transfer}
 use Rattle.model.specs.RowForm.{row-at, fits, earlier, follows}
 use Rattle.model.specs.RowLaws.{fits-hold, fits-move}

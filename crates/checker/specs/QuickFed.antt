@@ -12,7 +12,7 @@ use Rattle.base.specs.Sets.{has}
 use Rattle.base.specs.declared.Verdict.the-variants.{Refused}
 use Rattle.base.specs.Refusals.{refuse, first}
 use Rattle.base.specs.RefusalLaws.{first-met}
-use Rattle.model.specs.BothLaws.{both-true, either-true}
+use Rattle.base.specs.ChoiceLaws.{both-true, either-true}
 use Rattle.model.specs.Requests.{Requests}
 use Rattle.model.specs.Schedule.{hold, move, transfer, Stands, at-home, held, arrived}
 use Rattle.model.specs.Standing.{stands}

@@ -9,7 +9,7 @@ use lib.Dec.{eqb}
 use borrow.Author.Tests.{eqb-true, lt-ltb, le-ltb}
 use Rattle.base.specs.Choice.{le-or-lt, same-or-not, true-or-false, not-both}
 use Rattle.base.specs.Sets.{has}
-use Rattle.model.specs.BothLaws.{both-true}
+use Rattle.base.specs.ChoiceLaws.{both-true}
 use Rattle.model.specs.Schedule.{Row, hold, move, transfer, Stands}
 use Rattle.model.specs.Standing.{stands}
 use Rattle.model.specs.StandingLaws.{stands-complete}

@@ -9,7 +9,7 @@ use lib.Dec.{leb, ltb, eqb}
 use borrow.Author.Tests.{ltb-true, leb-true, eqb-true, eqb-false, ne-eqb, lt-ltb, not-true}
 use Rattle.base.specs.Choice.{pick, both, either, le-or-lt, same-or-not, true-or-false, not-both}
 use Rattle.base.specs.Sets.{has, put}
-use Rattle.model.specs.BothLaws.{both-true}
+use Rattle.base.specs.ChoiceLaws.{both-true}
 use Rattle.model.specs.Schedule.{Row, hold, move}
 use Rattle.model.specs.Standing.{reached}
 use Rattle.model.specs.RowForm.{row-at, rows-of}

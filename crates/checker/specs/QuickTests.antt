@@ -17,7 +17,7 @@ use Rattle.base.specs.RefusalLaws.{nth, first-append, first-passed, each-passed
 use Rattle.log.specs.Fields.{server-count, home-of, request-count}
 use Rattle.log.specs.Conditions.{Accepted}
 use Rattle.log.specs.AcceptedLaws.{accepted-sound}
-use Rattle.model.specs.BothLaws.{either-false}
+use Rattle.base.specs.ChoiceLaws.{either-false}
 use Rattle.model.specs.Requests.{Requests, requests}
 use Rattle.model.specs.LogRequests.{requests-in}
 use Rattle.model.specs.Schedule.{hold, transfer, held}

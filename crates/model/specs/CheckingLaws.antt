@@ -13,7 +13,7 @@ use Rattle.base.specs.Choice.{either}
 use Rattle.base.specs.Refusals.{Condition, refuse, first, each}
 use Rattle.base.specs.RefusalLaws.{first-failed, first-append, otherwise-passed, each-passed, first-passed, nth}
 use Rattle.prices.specs.declared.Prices.{Prices}
-use Rattle.model.specs.BothLaws.{either-false}
+use Rattle.base.specs.ChoiceLaws.{either-false}
 use Rattle.model.specs.Requests.{Requests}
 use Rattle.model.specs.Schedule.{Row, hold, move, transfer, Stands, Feasible, cost-of}
 use Rattle.model.specs.Standing.{stands}

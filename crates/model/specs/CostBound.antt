@@ -12,7 +12,7 @@ use Rattle.base.specs.Choice.{both, either, not-both}
 use Rattle.prices.specs.declared.Prices.{Prices}
 use Rattle.model.specs.Sums.{total}
 use Rattle.model.specs.Schedule.{Row, hold, move, transfer, length-of, is-transfer, cost-of}
-use Rattle.model.specs.BothLaws.{both-true, either-true}
+use Rattle.base.specs.ChoiceLaws.{both-true, either-true}
 use Rattle.model.specs.RowLaws.{fits-hold, fits-move}
 use Rattle.model.specs.RowForm.{fits, earlier, follows, ordered, all-fit, well-formed}
 

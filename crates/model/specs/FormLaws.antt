@@ -6,7 +6,7 @@ use Prim.Native.Nat.{ℕ, _<_}
 use borrow.Author.Tests.{lt-ltb}
 use Rattle.model.specs.Schedule.{Row}
 use Rattle.model.specs.RowForm.{fits, follows, ordered, all-fit, well-formed}
-use Rattle.model.specs.TestLaws.{both-true}
+use Rattle.base.specs.ChoiceLaws.{both-true}
 
 -- all rows fit where each does
 pub member-all-fit : (count last : ℕ) (rows : List Row) → ((r : Row) → List·Memᴰ r rows → fits count last r ≡ true) → all-fit count last rows ≡ true

@@ -12,7 +12,8 @@ use Rattle.model.specs.CountLaws.{sum-server, one-server}
 use Rattle.model.specs.Requests.{Requests, Within}
 use Rattle.model.specs.RequestLaws.{previous-some}
 use Rattle.model.specs.Marking.{Mark, spans, any, covered, holds}
-use Rattle.model.specs.TestLaws.{both-true, any-none, any-counts}
+use Rattle.base.specs.ChoiceLaws.{both-true}
+use Rattle.model.specs.TestLaws.{any-none, any-counts}
 use Rattle.model.specs.HolderLaws.{spans-true}
 
 module _ (q : Requests) (m : ℕ → Mark) (n count : ℕ) (within : Within count q n) where

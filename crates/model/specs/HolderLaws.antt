@@ -11,7 +11,8 @@ use Rattle.base.specs.Choice.{both, le-or-lt, true-or-false, not-both}
 use Rattle.model.specs.Requests.{Requests, previous, Within}
 use Rattle.model.specs.RequestLaws.{previous-some}
 use Rattle.model.specs.Marking.{Mark, K, S, keeps, begin, after, spans, covered, holds}
-use Rattle.model.specs.TestLaws.{both-true, any-true, any-has}
+use Rattle.base.specs.ChoiceLaws.{both-true}
+use Rattle.model.specs.TestLaws.{any-true, any-has}
 use Rattle.model.specs.Valid.{Valid, kept-from, sent-apart}
 
 -- request i is kept, and its span, from `start`, lies over gap k

@@ -1,7 +1,6 @@
 -- The model of 01's 'Schedules' and 'The plan': definitions, and the theorems about them.
 pub mod Alike
 pub mod BestLaws
-pub mod BothLaws
 pub mod Bounds
 pub mod Checking
 pub mod CheckingLaws

@@ -11,7 +11,7 @@ use borrow.Author.Tests.{ltb-true, leb-true, lt-ltb}
 use Rattle.base.specs.Choice.{both, le-or-lt}
 use Rattle.model.specs.Schedule.{Row, hold, move, transfer}
 use Rattle.model.specs.RowForm.{row-at, rows-upto, fits, follows, ordered, all-fit, well-formed}
-use Rattle.model.specs.BothLaws.{both-true, both-of, both-end, both-assoc}
+use Rattle.base.specs.ChoiceLaws.{both-true, both-of, both-end, both-assoc}
 
 -- what a hold that fits says, and a transfer
 pub fits-hold : (count last x a b : ℕ) → fits count last (hold x a b) ≡ true → (x < count) × (a < b) × (b ≤ last)

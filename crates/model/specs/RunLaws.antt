@@ -15,7 +15,7 @@ use Rattle.model.specs.Requests.{Requests, Rising}
 use Rattle.model.specs.RequestLaws.{rises-le}
 use Rattle.model.specs.Schedule.{Row, hold, length-of}
 use Rattle.model.specs.Marking.{gap, begins-run, run-end, hold-rows}
-use Rattle.model.specs.TestLaws.{both-true}
+use Rattle.base.specs.ChoiceLaws.{both-true}
 
 -- gaps k + 1 to e are a maximal run, of n gaps, of those that pass
 pub record Run (f : ℕ → Bool) (n k e : ℕ) : Type 0 where

@@ -10,7 +10,7 @@ use borrow.Author.Tests.{leb-true, ltb-true, eqb-true, le-leb, lt-ltb, eq-eqb}
 use Rattle.base.specs.Choice.{pick, both, same-or-not, true-or-false, not-both}
 use Rattle.base.specs.Sets.{has, put, members}
 use Rattle.base.specs.SetLaws.{has-none, has-put, has-put-other, put-there, members-put, members-le}
-use Rattle.model.specs.BothLaws.{both-true}
+use Rattle.base.specs.ChoiceLaws.{both-true}
 use Rattle.model.specs.Schedule.{Row, hold, move, transfer, Stands, at-home, held, arrived}
 use Rattle.model.specs.Standing.{reach, arrive, through, reached, rounds, standing, stands}
 

@@ -1,4 +1,4 @@
--- Laws of two tests at once, of a test of one of 1 to n, and of counting the numbers that pass.
+-- Laws of a test of one of 1 to n, and of counting the numbers that pass.
 use mathlib.Core.Bool.{Bool, true, false, false≢true}
 use mathlib.Core.Logic.{_⊎_, inl, inr}
 use mathlib.Core.Path.{_≡_, refl}
@@ -8,11 +8,6 @@ use Rattle.base.specs.Choice.{pick, both, le-or-lt, true-or-false, not-both}
 use Rattle.model.specs.Sums.{sum}
 use Rattle.model.specs.SumLaws.{sum-zero}
 use Rattle.model.specs.Marking.{any}
-
--- both tests hold
-pub both-true : (a b : Bool) → both a b ≡ true → (a ≡ true) × (b ≡ true)
-both-true true b e = (refl, e)
-both-true false b e = absurd (false≢true e)
 
 -- one of 1 to n that passes
 pub any-true : (n : ℕ) (f : ℕ → Bool) → any n f ≡ true → (i : ℕ) × (1 ≤ i) × (i ≤ n) × (f i ≡ true)

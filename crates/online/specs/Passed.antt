@@ -27,7 +27,7 @@ pub start-passed : (class′ count home : ℕ) → start-verdict class′ count 
 unfolding start-verdict setup-conditions
 start-passed class′ count home e =
     let f = first-passed (setup-conditions class′ count home) .0 e in
-    let n = either-false (eqb count 0) (ltb 64 count) .0 (f 1) in
+    let n = either-false (eqb count 0) (ltb 64 count) (f 1) in
     record {
       class-in = ltb-false _ _ (f 0);
       count-least = let z : count ≢ 0 = eqb-false _ _ (n .0) in omega arith;
@@ -50,7 +50,7 @@ pub scan-passed : (c : Cache) (second server : ℕ) → scan-verdict c second se
 unfolding scan-verdict scan-conditions
 scan-passed c second server e =
     let f = first-passed (scan-conditions c second server) .0 e in
-    let n = either-false (eqb second 0) (ltb 4000000 second) .0 (f 1) in
+    let n = either-false (eqb second 0) (ltb 4000000 second) (f 1) in
     record {
       counted = leb-false _ _ (f 0);
       second-least = let z : second ≢ 0 = eqb-false _ _ (n .0) in omega arith;

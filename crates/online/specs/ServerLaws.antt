@@ -112,7 +112,7 @@ some-server-none (suc n) f h = rw (h n (omega arith)) (some-server-none n f (λ 
 pub some-server-each : (n : ℕ) (f : ℕ → Bool) → some-server n f ≡ false → (y : ℕ) → y < n → f y ≡ false
 unfolding some-server
 some-server-each zero f h y l = absurd (omega arith)
-some-server-each (suc n) f h y l = go (either-false (f n) (some-server n f) .0 h) (same-or-not y n) (some-server-each n f)
+some-server-each (suc n) f h y l = go (either-false (f n) (some-server n f) h) (same-or-not y n) (some-server-each n f)
   where
     go : (f n ≡ false) × (some-server n f ≡ false) → (y ≡ n) ⊎ (y ≢ n) → (some-server n f ≡ false → (y : ℕ) → y < n → f y ≡ false)
         → f y ≡ false

@@ -9,7 +9,7 @@ use lib.ListN.{getD}
 use lib.Dec.{ltb, eqb}
 use borrow.Author.Tests.{leb-false, ltb-false, eqb-true, eqb-false, not-true, not-false, lt-leb, le-ltb, eq-eqb, ne-eqb}
 use Rattle.base.specs.Choice.{both, same-or-not, true-or-false, not-both}
-use Rattle.base.specs.ChoiceLaws.{either-false}
+use Rattle.base.specs.ChoiceLaws.{either-false, neither-of}
 use Rattle.online.specs.declared.Cache.{Cache}
 use Rattle.online.specs.ServerLaws.{some-server-none, some-server-each}
 use Rattle.online.specs.Rules.{window-of, copy-at, use-at}
@@ -31,8 +31,8 @@ none-holds (b ∷ bs) (_also_ e n) = rw e (none-holds bs n)
 each-fails : (bs : List Bool) → any-of bs ≡ false → (i : ℕ) → getD bs i false ≡ false
 unfolding any-of
 each-fails [] h i = refl
-each-fails (b ∷ bs) h zero = either-false b (any-of bs) .0 h .0
-each-fails (b ∷ bs) h (suc i) = each-fails bs (either-false b (any-of bs) .0 h .1) i
+each-fails (b ∷ bs) h zero = either-false b (any-of bs) h .0
+each-fails (b ∷ bs) h (suc i) = each-fails bs (either-false b (any-of bs) h .1) i
 
 -- two tests do not both hold where the second fails if the first holds
 both-none : (a b : Bool) → (a ≡ true → b ≡ false) → both a b ≡ false
@@ -105,7 +105,7 @@ unfolding broken
 sound-unbroken c s =
     none-holds (faults c)
     (le-ltb _ _ (s .class-in)
-    also either-false _ _ .1 (ne-eqb (c .«server_count») 0 (λ e. omega (arith, s .count-least)), le-ltb _ _ (s .count-most))
+    also neither-of (ne-eqb (c .«server_count») 0 (λ e. omega (arith, s .count-least))) (le-ltb _ _ (s .count-most))
     also le-ltb _ _ (s .second-most)
     also lt-leb _ _ (s .last-counted)
     also ap not (s .last-stands)
@@ -121,7 +121,7 @@ pub unbroken-sound : (c : Cache) → broken c ≡ false → Sound c
 unfolding broken
 unbroken-sound c h =
     let f = each-fails (faults c) h in
-    let n = either-false (eqb (c .«server_count») 0) (ltb 64 (c .«server_count»)) .0 (f 1) in
+    let n = either-false (eqb (c .«server_count») 0) (ltb 64 (c .«server_count»)) (f 1) in
     record {
       class-in = ltb-false _ _ (f 0);
       count-least = let z : c .«server_count» ≢ 0 = eqb-false _ _ (n .0) in omega arith;

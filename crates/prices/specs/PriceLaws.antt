@@ -39,9 +39,9 @@ in-range p = both (both (leb 1 (p .hold)) (leb (p .hold) 1000000)) (both (leb 1 
 in-range-true : (p : Prices) → in-range p ≡ true → In-range p
 unfolding in-range
 in-range-true p e =
-    let (h, t) = both-true _ _ .0 e in
-    let (h₁, h₂) = both-true _ _ .0 h in
-    let (t₁, t₂) = both-true _ _ .0 t in
+    let (h, t) = both-true _ _ e in
+    let (h₁, h₂) = both-true _ _ h in
+    let (t₁, t₂) = both-true _ _ t in
     record { hold-least = leb-true _ _ h₁; hold-most = leb-true _ _ h₂; transfer-least = leb-true _ _ t₁; transfer-most = leb-true _ _ t₂ }
 
 -- every class of the table passes it

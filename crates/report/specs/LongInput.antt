@@ -61,7 +61,7 @@ long-verdict s h = first-append (early s) (ninth s ∷ late s) ∙ go (first (ea
         let b = not (eqb (id-offset s) 24) in
         let d = eqb (total-length s) (length-for (request-count s)) in
         let total : total-length s ≡ length-for (request-count s) =
-        eqb-true _ _ (not-false d (either-false b (not d) .0 (either-false a (either b (not d)) .0 (f 7) .1) .1)) in
+        eqb-true _ _ (not-false d (either-false b (not d) (either-false a (either b (not d)) (f 7) .1) .1)) in
         rw e (first-met (ninth s) (late s) (ap not (ne-eqb (length s) (total-length s) (λ z. omega arith))))
     go (Refused r) e = rw e refl
 
