@@ -15,7 +15,7 @@ use Rattle.planner.proofs.table.fill.Statement.{statement}
 use Rattle.planner.proofs.table.fill.Tie as tie
 
 abbrev Inv-loop : tie.InvT-loop
-Inv-loop prices seconds servers previous n costs₀ keeps₀ i₀ costs keeps i =
+Inv-loop prices seconds servers previous n costs₀ keeps₀ owns i₀ costs keeps i =
     (i ≤ n)
     × (length costs ≡ length costs₀)
     × (length keeps ≡ length keeps₀)
@@ -23,7 +23,15 @@ Inv-loop prices seconds servers previous n costs₀ keeps₀ i₀ costs keeps i 
     × (keeps ≡ keeps-front prices (asks seconds servers) i keeps₀)
 
 abbrev μ-loop : tie.MeasureT-loop
-μ-loop prices seconds servers previous n costs₀ keeps₀ i₀ costs keeps i = n - i
+μ-loop prices seconds servers previous n costs₀ keeps₀ owns i₀ costs keeps i = n - i
+
+slice-aggregate-own-costs : tie.Need-slice-aggregate-own-costs Inv-loop μ-loop
+slice-aggregate-own-costs c = search needs
+
+own-costs-requires : tie.Need-own-costs-requires Inv-loop μ-loop
+own-costs-requires c κs =
+    let s = c .before .before .before in
+    (s .pre .0, omega (arith, s .pre .0 .fits .requests-most))
 
 slice-write-costs : tie.Need-slice-write-costs Inv-loop μ-loop
 slice-write-costs c = search needs
@@ -34,20 +42,23 @@ slice-write-keeps c = search needs
 loop-holds : tie.Need-loop-holds Inv-loop μ-loop
 unfolding lists
 loop-holds c =
-    let a = c .before .before .args in
+    let a = c .before .before .before .before .before .args in
     (search needs, refl, refl, set-first (a .costs .now) 0 (search needs), set-first (a .keeps .now) 0 (search needs))
 
 extend-requires : tie.Need-extend-requires Inv-loop μ-loop
 extend-requires c κs =
-    let s = c .before .before .before .before .before .before in
+    let s = c .before .before .before .before .before .before .before .before .before .before in
     let a = s .args in
-    let l = c .before .before .before .loop in
+    let l = c .before .before .before .before .loop in
     let long = length-set (a .costs .now) 0 0 in
     let long₂ = length-set (a .keeps .now) 0 0 in (
       ready-less (a .prices) (a .seconds .now) (a .servers .now) (a .previous .now) (a .n) (suc (l .i)) (search needs) (s .pre .0),
       (
-        filled-tabled (a .prices) (asks (a .seconds .now) (a .servers .now)) (l .i) _ _ (l .costs) (l .keeps) (l .inv .3) (l .inv .4),
-        (omega (arith, l .inv), omega (arith, l .inv)),
+        λ k h. c .before .before .before .before .before .before .own-costs .ensures k (omega (arith, l .inv .0)),
+        (
+          filled-tabled (a .prices) (asks (a .seconds .now) (a .servers .now)) (l .i) _ _ (l .costs) (l .keeps) (l .inv .3) (l .inv .4),
+          (omega (arith, l .inv), omega (arith, l .inv)),
+        ),
       ),
     )
 
@@ -59,9 +70,9 @@ loop-less c = search needs
 
 loop-again : tie.Need-loop-again Inv-loop μ-loop
 loop-again c =
-    let s = c .before .before .before .before .before .before .before .before .before .before .before in
+    let s = c .before .before .before .before .before .before .before .before .before .before .before .before .before .before .before in
     let a = s .args in
-    let l = c .before .before .before .before .before .before .before .before .loop in
+    let l = c .before .before .before .before .before .before .before .before .before .loop in
     let x = c .before .before .before .before .extend in
     let q = asks (a .seconds .now) (a .servers .now) in
     let o = set (a .costs .now) 0 0 in
@@ -81,17 +92,17 @@ loop-again c =
 
 same-length : tie.Need-same-length Inv-loop μ-loop
 same-length c =
-    let a = c .before .before .before .before .args in
+    let a = c .before .before .before .before .before .before .before .args in
     c .before .loop .inv .1 ∙ length-set (a .costs .now) 0 0
 
 same-length-2 : tie.Need-same-length-2 Inv-loop μ-loop
 same-length-2 c =
-    let a = c .before .before .before .before .args in
+    let a = c .before .before .before .before .before .before .before .args in
     c .before .loop .inv .2 ∙ length-set (a .keeps .now) 0 0
 
 returns : tie.Need-returns Inv-loop μ-loop
 returns c =
-    let a = c .before .before .before .before .args in
+    let a = c .before .before .before .before .before .before .before .args in
     let l = c .before .loop in
     let q = asks (a .seconds .now) (a .servers .now) in
     let e : l .i ≡ a .n = omega arith in (
@@ -109,6 +120,8 @@ fill-spec =
     (tie.spec
     Inv-loop
     μ-loop
+    slice-aggregate-own-costs
+    own-costs-requires
     slice-write-costs
     slice-write-keeps
     loop-holds
