@@ -1,4 +1,4 @@
--- The row of a table, request by request: what each costs by itself bounds the step from one to the next.
+-- A row of the table, request by request, by what each costs by itself and by D.
 use mathlib.Core.Bool.{Bool, true, false}
 use mathlib.Core.List.{List}
 use mathlib.Core.Logic.{_⊎_, inl, inr, _≢_}
@@ -17,7 +17,6 @@ use Rattle.model.specs.Requests.{Requests, previous, Rising}
 use Rattle.model.specs.RequestLaws.{previous-some}
 use Rattle.model.specs.Marking.{S, legal}
 use Rattle.model.specs.Table.{best}
-use Rattle.model.specs.TableLaws.{span}
 use Rattle.model.specs.TableRows.{row-step, row, kept-best, Tabled, row-next, row-is}
 use Rattle.model.specs.TableLists.{at}
 use Rattle.model.specs.Bounds.{best-bounded}
@@ -59,7 +58,7 @@ module _ (p : Prices) (q : Requests) where
           other z = omega (arith, z)
 
   module _ (n : ℕ) (rising : Rising q n) where
-    -- kept from a request up to c, request k + 1 costs no more than d; kept from a later one, d is more than its span and v
+    -- a step of a row: D is at most v and the span where the span begins before c, and at least that where it does not
     pub step-is : (c k d v : ℕ) → k < 65535 → v ≡ best p q k c → ((j : ℕ) → previous q (suc k) ≡ some j → d ≡ kept-best p q k j)
         → next-cost (p .transfer) (index (previous q (suc k))) (own-cost (p .transfer) (terms-of p q k)) d v ≡ row-step p q c k d v
     unfolding row-step terms-of own-cost next-cost cheaper index span-from
@@ -85,7 +84,7 @@ module _ (p : Prices) (q : Requests) where
             two (inl a) = rw (z, row-step, terms-of, l, ne-eqb j 65535 (far j z), le-ltb j c a) (omega (arith, e, f j z, rises c j a))
             two (inr a) = rw (z, row-step, terms-of, l, ne-eqb j 65535 (far j z), lt-ltb j c a) (omega (arith, e, f j z, rises j c (omega arith)))
 
-module _ (p : Prices) (seconds servers links owns costs keeps : List ℕ) (n : ℕ) (r : Ready p seconds servers links n) (o : Owned p (asks seconds servers) n owns) where
+module _ (p : Prices) (seconds servers links owns : List ℕ) (n : ℕ) (r : Ready p seconds servers links n) (o : Owned p (asks seconds servers) n owns) where
   -- what a request in the list costs by itself is small
   pub owned-small : (k : ℕ) → k < n → at owns (k + 1) < 2 ^ 60
   owned-small k h =
@@ -93,9 +92,9 @@ module _ (p : Prices) (seconds servers links owns costs keeps : List ℕ) (n : �
       rw (add-one k, o k h) (own-small p (asks seconds servers) k (omega arith) (fits-less p (asks seconds servers) n (r .fits) (suc k) h))
 
   -- a row, with one more request
-  pub row-more : Tabled p (asks seconds servers) n (at costs) (at keeps) → (c k v : ℕ) → c ≤ k → k < n → v ≡ row p (asks seconds servers) (at costs) (at keeps) c k
+  pub row-more : (costs keeps : List ℕ) → Tabled p (asks seconds servers) n (at costs) (at keeps) → (c k v : ℕ) → c ≤ k → k < n → v ≡ row p (asks seconds servers) (at costs) (at keeps) c k
       → next-cost (p .transfer) (at links (k + 1)) (at owns (k + 1)) (at keeps (k + 1)) v ≡ row p (asks seconds servers) (at costs) (at keeps) c (k + 1)
-  row-more t c k v a h e =
+  row-more costs keeps t c k v a h e =
       let few = r .fits .requests-most in
       let q = asks seconds servers in
       let right : Tabled p q k (at costs) (at keeps) = record { costs = λ i l. t .costs i (omega arith); keeps = λ i j l. t .keeps i j (omega arith) } in

@@ -1,16 +1,13 @@
 -- The table's steps are what the code makes of a request's terms.
-use mathlib.Core.Bool.{Bool, true, false}
 use mathlib.Core.Option.{Option, none, some}
-use mathlib.Core.Path.{_≡_, refl, sym, ap, _∙_}
+use mathlib.Core.Path.{_≡_, refl, ap, _∙_}
 use native.Mathlib.Omega.{arith}
-use Prim.Native.Nat.{ℕ, suc, _+_, _*_, _^_, _≤_, _<_, min}
-use lib.Dec.{eqb}
-use borrow.Author.Tests.{eq-eqb, ne-eqb}
-use Rattle.base.specs.Choice.{pick}
+use Prim.Native.Nat.{ℕ, suc, _+_, _^_, _≤_, _<_}
+use borrow.Author.Tests.{ne-eqb}
 use Rattle.prices.specs.declared.Prices.{Prices}
 use Rattle.model.specs.Requests.{Requests, previous}
 use Rattle.model.specs.RequestLaws.{previous-some}
-use Rattle.model.specs.Marking.{S, legal, gap}
+use Rattle.model.specs.Marking.{gap}
 use Rattle.model.specs.TableLaws.{span}
 use Rattle.model.specs.TableRows.{row, next-D, next-C}
 use Rattle.planner.specs.declared.table.Terms.{Terms}

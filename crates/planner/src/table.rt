@@ -242,10 +242,13 @@ pub(crate) fn fill(
     ensures { λ _. ⌜ now (costs .exit) ≡ lists prices (asks (now (seconds .entry)) (now (servers .entry))) n .costs ++ drop (suc n) (now (costs .entry)) ⌝ }
     ensures { λ _. ⌜ now (keeps .exit) ≡ lists prices (asks (now (seconds .entry)) (now (servers .entry))) n .keeps ++ drop (suc n) (now (keeps .entry)) ⌝ }
 {
-    let mut owns = [0u64; 2049];
-    own_costs(prices, seconds, servers, previous, n, &mut owns);
     costs[0] = 0;
     keeps[0] = 0;
+    if n == 0 {
+        return;
+    }
+    let mut owns = [0u64; 2049];
+    own_costs(prices, seconds, servers, previous, n, &mut owns);
     let mut i: u16 = 0;
     while i < n {
         extend(prices, seconds, servers, previous, &owns, i, costs, keeps);

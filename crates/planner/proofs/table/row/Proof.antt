@@ -65,7 +65,7 @@ next-cost-requires c κs =
     let a = s .args in
     let l = c .before .before .before .before .loop in
     let e = c .before .before .before .before .before .before .before .size .ensures .0 in (
-      owned-small (a .prices) (a .seconds .now) (a .servers .now) (a .previous .now) (a .owns .now) (a .costs .now) (a .keeps .now) (a .i) (s .pre .0) (s .pre .1 .0) (l .k) (omega arith),
+      owned-small (a .prices) (a .seconds .now) (a .servers .now) (a .previous .now) (a .owns .now) (a .i) (s .pre .0) (s .pre .1 .0) (l .k) (omega arith),
       rw (l .inv .2)
           (row-small (a .prices) (asks (a .seconds .now) (a .servers .now)) (a .i) (s .pre .0 .fits) (at (a .costs .now)) (at (a .keeps .now)) (a .c) (l .k) (s .pre .1 .1 .0) (l .inv .0) (l .inv .1)),
     )
@@ -82,7 +82,7 @@ loop-again c =
       omega (arith, l .inv .0),
       omega arith,
       c .next-cost .ensures
-          ∙ row-more (a .prices) (a .seconds .now) (a .servers .now) (a .previous .now) (a .owns .now) (a .costs .now) (a .keeps .now) (a .i) (s .pre .0) (s .pre .1 .0) (s .pre .1 .1 .0) (a .c) (l .k) (l .v) (l .inv .0) (omega arith) (l .inv .2),
+          ∙ row-more (a .prices) (a .seconds .now) (a .servers .now) (a .previous .now) (a .owns .now) (a .i) (s .pre .0) (s .pre .1 .0) (a .costs .now) (a .keeps .now) (s .pre .1 .1 .0) (a .c) (l .k) (l .v) (l .inv .0) (omega arith) (l .inv .2),
     )
 
 returns : tie.Need-returns Inv-loop μ-loop
