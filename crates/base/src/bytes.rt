@@ -1,6 +1,6 @@
 // Bytes: reads that are total, little-endian numbers, and runs of elements cleared or copied.
 ghost use mathlib.Core.Path.{_≡_};
-ghost use Prim.Native.Nat.{_<_};
+ghost use Prim.Native.Nat.{_+_, _*_, _<_};
 ghost use Rattle.base.specs.Bytes.{byte, le16, le32, bytes};
 ghost use Rattle.base.specs.Lists.{cleared, splice};
 
@@ -28,24 +28,58 @@ fn word(h: u16) -> u32
     h as u32
 }
 
-// The number in the two bytes from i on, 0 for a byte past the end.
-pub fn at16(s: &[u8], i: usize) -> u16
+// The number of two bytes, the lowest first.
+fn pair(low: u8, high: u8) -> u16
+    ensures { λ r. ⌜ r ≡ low + 256 * high ⌝ }
+{
+    half(low) + 256 * half(high)
+}
+
+// The number in the two bytes from i on, 0 for a byte past the end; each byte is tested.
+fn edge16(s: &[u8], i: usize) -> u16
     ensures { λ r. ⌜ r ≡ le16 (now (s .entry)) i ⌝ }
 {
     if s.len() <= i {
         return 0;
     }
-    half(at(s, i)) + 256 * half(at(s, i + 1))
+    pair(at(s, i), at(s, i + 1))
 }
 
-// The number in the four bytes from i on.
-pub fn at32(s: &[u8], i: usize) -> u32
+// The same with one test where both bytes are there.
+pub fn at16(s: &[u8], i: usize) -> u16
+    ensures { λ r. ⌜ r ≡ le16 (now (s .entry)) i ⌝ }
+{
+    if s.len() < 2 {
+        return edge16(s, i);
+    }
+    if s.len() - 2 < i {
+        return edge16(s, i);
+    }
+    pair(s[i], s[i + 1])
+}
+
+// The number in the four bytes from i on, 0 for a byte past the end.
+fn edge32(s: &[u8], i: usize) -> u32
     ensures { λ r. ⌜ r ≡ le32 (now (s .entry)) i ⌝ }
 {
     if s.len() <= i {
         return 0;
     }
     word(at16(s, i)) + 65536 * word(at16(s, i + 2))
+}
+
+// The same with one test where all four are there.
+pub fn at32(s: &[u8], i: usize) -> u32
+    ensures { λ r. ⌜ r ≡ le32 (now (s .entry)) i ⌝ }
+{
+    if s.len() < 4 {
+        return edge32(s, i);
+    }
+    if s.len() - 4 < i {
+        return edge32(s, i);
+    }
+    let k = i + 2;
+    word(pair(s[i], s[i + 1])) + 65536 * word(pair(s[k], s[k + 1]))
 }
 
 // The two bytes of a number, the lowest first.

@@ -35,9 +35,10 @@ pub each-more : (f : ℕ → List Condition) (i : ℕ) → first (each f i) ≡ 
 each-more f i p q = each-suc f i ∙ rw (p, q)
 
 -- what a check of request i finds, from the values that it was handed
-pub request-found : (s : List ℕ) (i count earlier : ℕ) (v : Verdict) → i < request-count s → count ≡ server-count s → earlier ≡ before (seconds-of s) i
-    → v ≡ first (request-check count (le16 s (44 + 6 * i)) (le32 s (40 + 6 * i)) earlier (suc i)) → first (log-requests s i) ≡ v
-request-found s i count earlier v h p q e = rw (log-request s i h, ← p, ← q) (sym e)
+pub request-found : (s : List ℕ) (i count server second earlier place : ℕ) (v : Verdict) → i < request-count s → count ≡ server-count s
+    → server ≡ le16 s (44 + 6 * i) → second ≡ le32 s (40 + 6 * i) → earlier ≡ before (seconds-of s) i → place ≡ suc i
+    → v ≡ first (request-check count server second earlier place) → first (log-requests s i) ≡ v
+request-found s i count server second earlier place v h p a b q z e = rw (log-request s i h, ← p, ← a, ← b, ← q, ← z) (sym e)
 
 pub list-found : (count : ℕ) (seconds servers : List ℕ) (i earlier place : ℕ) (v : Verdict) → earlier ≡ before seconds i → place ≡ suc i
     → v ≡ first (request-check count (getD servers i 0) (getD seconds i 0) earlier place) → first (request-conditions count seconds servers i) ≡ v

@@ -7,7 +7,6 @@ ghost use lib.ListN.{length};
 ghost use Rattle.base.specs.Choice.{either};
 ghost use Rattle.base.specs.Refusals.{first, each};
 ghost use Rattle.base.specs.RefusalLaws.{from};
-ghost use Rattle.base.specs.Bytes.{le16, le32};
 ghost use Rattle.log.specs.Fields.{server-count, request-count, requests-offset, id-offset, total-length, written-sum, length-for, seconds-of, servers-of};
 ghost use Rattle.log.specs.Sum.{sum-of};
 ghost use Rattle.log.specs.Conditions.{setup-conditions, form-conditions, request-check, request-conditions, verdict-of};
@@ -132,16 +131,6 @@ fn place(i: usize) -> u64
     i as u64 + 1
 }
 
-// 11 to 13 for request i of a log, after a request at second `earlier`.
-fn fault_at(log: &[u8], count: u8, i: u16, earlier: u32) -> Verdict
-    ensures { λ r. ⌜ r ≡ first (request-check count (le16 (now (log .entry)) (44 + 6 * i)) (le32 (now (log .entry)) (40 + 6 * i)) earlier (suc i)) ⌝ }
-{
-    let k = size(i);
-    let server = at16(log, 44 + 6 * k);
-    let second = at32(log, 40 + 6 * k);
-    request_fault(count, server, second, earlier, place(k))
-}
-
 // 11 to 13 for each request of a log.
 fn requests_fault(log: &[u8]) -> Verdict
     ensures { λ r. ⌜ r ≡ first (each (request-conditions (server-count (now (log .entry))) (seconds-of (now (log .entry))) (servers-of (now (log .entry)))) (request-count (now (log .entry)))) ⌝ }
@@ -151,11 +140,13 @@ fn requests_fault(log: &[u8]) -> Verdict
     let mut earlier: u32 = 0;
     let mut i: u16 = 0;
     while i < n {
-        let v = fault_at(log, count, i, earlier);
+        let k = size(i);
+        let second = at32(log, 40 + 6 * k);
+        let v = request_fault(count, at16(log, 44 + 6 * k), second, earlier, place(k));
         if let Verdict::Refused(r) = v {
             return Verdict::Refused(r);
         }
-        earlier = at32(log, 40 + 6 * size(i));
+        earlier = second;
         i += 1;
     }
     Verdict::Passed

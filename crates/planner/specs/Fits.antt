@@ -12,7 +12,7 @@ use Rattle.model.specs.TableLists.{at}
 use Rattle.model.specs.TableRows.{Tabled, row, row-is}
 use Rattle.model.specs.Bounds.{Bounded, best-bounded, best-most, owns-most, least-own}
 use Rattle.planner.specs.Asked.{asks}
-use Rattle.planner.specs.Terms.{index}
+use Rattle.planner.specs.Terms.{index, terms-of, own-cost}
 
 -- as few requests, as early seconds and as low prices as an accepted log has
 pub record Fits (p : Prices) (q : Requests) (n : ℕ) : Type 0 where
@@ -26,6 +26,10 @@ pub record Fits (p : Prices) (q : Requests) (n : ℕ) : Type 0 where
 pub record Ready (p : Prices) (seconds servers links : List ℕ) (n : ℕ) : Type 0 where
   pub fits : Fits p (asks seconds servers) n
   pub linked : (i : ℕ) → i ≤ n → at links i ≡ index (previous (asks seconds servers) i)
+
+-- a list that has, from place 1 on, what each of n requests costs by itself
+abbrev pub Owned : Prices → Requests → ℕ → List ℕ → Type 0
+Owned p q n owns = (i : ℕ) → i < n → at owns (suc i) ≡ own-cost (p .transfer) (terms-of p q i)
 
 module _ (p : Prices) (q : Requests) (n : ℕ) (f : Fits p q n) where
   -- the same for fewer

@@ -4,6 +4,7 @@ pub mod Asked
 pub mod Terms
 pub mod Fits
 pub mod TermLaws
+pub mod StepLaws
 pub mod ReadyLaws
 pub mod FillLaws
 pub mod Walked

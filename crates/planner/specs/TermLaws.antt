@@ -1,20 +1,17 @@
 -- The table's steps are what the code makes of a request's terms.
-use mathlib.Core.Bool.{Bool, true, false}
 use mathlib.Core.Option.{Option, none, some}
-use mathlib.Core.Path.{_≡_, refl, sym, ap, _∙_}
+use mathlib.Core.Path.{_≡_, refl, ap, _∙_}
 use native.Mathlib.Omega.{arith}
-use Prim.Native.Nat.{ℕ, suc, _+_, _*_, _^_, _≤_, _<_, min}
-use lib.Dec.{ltb, eqb}
-use borrow.Author.Tests.{eq-eqb, ne-eqb}
-use Rattle.base.specs.Choice.{pick}
+use Prim.Native.Nat.{ℕ, suc, _+_, _^_, _≤_, _<_}
+use borrow.Author.Tests.{ne-eqb}
 use Rattle.prices.specs.declared.Prices.{Prices}
 use Rattle.model.specs.Requests.{Requests, previous}
 use Rattle.model.specs.RequestLaws.{previous-some}
-use Rattle.model.specs.Marking.{S, legal, gap}
+use Rattle.model.specs.Marking.{gap}
 use Rattle.model.specs.TableLaws.{span}
-use Rattle.model.specs.TableRows.{row-step, row, next-D, next-C}
+use Rattle.model.specs.TableRows.{row, next-D, next-C}
 use Rattle.planner.specs.declared.table.Terms.{Terms}
-use Rattle.planner.specs.Terms.{index, span-from, terms-of, cheaper, kept-cost}
+use Rattle.planner.specs.Terms.{index, span-from, terms-of, cheaper}
 use Rattle.planner.specs.Fits.{Fits, span-small}
 
 -- what the code's index of a previous request tells
@@ -31,17 +28,6 @@ linked-view q i x e = go (previous q i) refl
     go (some j) z = after j z (previous-some q i j z .below) (e ∙ ap index z)
 
 module _ (p : Prices) (q : Requests) where
-  -- a step of a row
-  pub step-terms : (c k d v : ℕ) → k < 65535
-      → row-step p q c k d v ≡ cheaper (terms-of p q k) (p .transfer + v) (kept-cost (terms-of p q k) c d v)
-  unfolding row-step terms-of cheaper kept-cost index span-from
-  step-terms c k d v h = go (previous q (suc k)) refl
-    where
-      go : (o : Option ℕ) → previous q (suc k) ≡ o
-          → row-step p q c k d v ≡ cheaper (terms-of p q k) (p .transfer + v) (kept-cost (terms-of p q k) c d v)
-      go none z = rw (z, row-step, terms-of)
-      go (some j) z = rw (z, row-step, terms-of, ne-eqb j 65535 (λ e. omega (arith, previous-some q (suc k) j z .below)))
-
   -- the next C
   pub cost-terms : (i d v : ℕ) → i < 65535
       → next-C p q i d v ≡ cheaper (terms-of p q i) (p .transfer + terms-of p q i .gap + v) d

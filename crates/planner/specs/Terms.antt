@@ -34,9 +34,13 @@ terms-of p q i =
 unfoldable pub cheaper : Terms → ℕ → ℕ → ℕ
 cheaper a sent kept = pick (eqb (a .from) 65535) sent (pick (a .sendable) (min sent kept) kept)
 
--- what K costs where the gaps above c are covered: d, or the span and v where it begins at c or later
-unfoldable pub kept-cost : Terms → ℕ → ℕ → ℕ → ℕ
-kept-cost a c d v = pick (ltb (a .from) c) d (a .span + v)
+-- the least that the request costs by itself
+unfoldable pub own-cost : ℕ → Terms → ℕ
+own-cost transfer a = cheaper a transfer (a .span)
+
+-- the cost with the request, after v for those before it: a transfer where it cannot be kept; else what it costs by itself, and no more than d, its D
+unfoldable pub next-cost : ℕ → ℕ → ℕ → ℕ → ℕ → ℕ
+next-cost transfer from own d v = pick (eqb from 65535) (transfer + v) (min (own + v) d)
 
 -- is the request K
 unfoldable pub kept-by : ℕ → Terms → ℕ → ℕ → ℕ → Bool

@@ -4,10 +4,10 @@ ghost use mathlib.Core.List.{_++_};
 ghost use Prim.Native.Nat.{suc, _+_, _*_, _-_, _^_, _≤_, _<_, min};
 ghost use lib.ListN.{length, drop, set};
 ghost use Rattle.model.specs.TableLists.{at, lists};
-ghost use Rattle.model.specs.TableRows.{row-step, row, next-D, next-C, Tabled};
+ghost use Rattle.model.specs.TableRows.{row, next-D, next-C, Tabled};
 ghost use Rattle.planner.specs.Asked.{asks};
-ghost use Rattle.planner.specs.Terms.{terms-of, cheaper, kept-cost};
-ghost use Rattle.planner.specs.Fits.{Ready};
+ghost use Rattle.planner.specs.Terms.{terms-of, cheaper, own-cost, next-cost};
+ghost use Rattle.planner.specs.Fits.{Ready, Owned};
 use crate::NONE;
 use crate::reads::size;
 use prices::Prices;
@@ -91,36 +91,51 @@ fn cheaper(a: Terms, sent: u64, kept: u64) -> u64
     kept
 }
 
-// What K costs where the gaps above c are covered: d is the request's D, v the cost of the requests before it.
-fn kept_cost(a: Terms, c: u16, d: u64, v: u64) -> u64
-    requires { ⌜ (a .span < 2 ^ 60) × (v < 2 ^ 60) ⌝ }
-    ensures { λ r. ⌜ r ≡ kept-cost a c d v ⌝ }
-{
-    if a.from < c {
-        return d;
-    }
-    a.span + v
-}
-
-// From the cost v of k requests where the gaps above c are covered to that of one more.
-fn row_step(
+// The least that request i + 1 costs by itself.
+fn own_cost(
     prices: Prices,
     seconds: &[u32; 2049],
     servers: &[u16; 2049],
     previous: &[u16; 2049],
-    keeps: &[u64],
-    c: u16,
-    k: u16,
-    v: u64,
+    i: u16,
 ) -> u64
-    requires { ⌜ Ready prices (now seconds) (now servers) (now previous) (suc k) ⌝ }
-    requires { ⌜ (suc k < length (now keeps)) × (v < 2 ^ 60) ⌝ }
-    ensures { λ r. ⌜ r ≡ row-step prices (asks (now (seconds .entry)) (now (servers .entry))) c k (at (now (keeps .entry)) (suc k)) v ⌝ }
+    requires { ⌜ Ready prices (now seconds) (now servers) (now previous) (suc i) ⌝ }
+    ensures { λ r. ⌜ r ≡ own-cost (prices .transfer) (terms-of prices (asks (now (seconds .entry)) (now (servers .entry))) i) ⌝ }
 {
-    let a = terms_at(prices, seconds, servers, previous, k);
-    let i = size(k);
-    let kept = kept_cost(a, c, keeps[i + 1], v);
-    cheaper(a, wide(prices.transfer) + v, kept)
+    let a = terms_at(prices, seconds, servers, previous, i);
+    cheaper(a, wide(prices.transfer), a.span)
+}
+
+// That of each of n requests, from place 1 of a list on.
+fn own_costs(
+    prices: Prices,
+    seconds: &[u32; 2049],
+    servers: &[u16; 2049],
+    previous: &[u16; 2049],
+    n: u16,
+    owns: &mut [u64],
+)
+    requires { ⌜ Ready prices (now seconds) (now servers) (now previous) n ⌝ }
+    requires { ⌜ n < length (now owns) ⌝ }
+    ensures { λ _. ⌜ Owned prices (asks (now (seconds .entry)) (now (servers .entry))) n (now (owns .exit)) ⌝ }
+{
+    let mut i: u16 = 0;
+    while i < n {
+        let k = size(i);
+        owns[k + 1] = own_cost(prices, seconds, servers, previous, i);
+        i += 1;
+    }
+}
+
+// The cost with one more request, after v for those before it: a transfer where it cannot be kept; else what it costs by itself, and no more than d, its D.
+fn next_cost(transfer: u32, from: u16, own: u64, d: u64, v: u64) -> u64
+    requires { ⌜ (own < 2 ^ 60) × (v < 2 ^ 60) ⌝ }
+    ensures { λ r. ⌜ r ≡ next-cost transfer from own d v ⌝ }
+{
+    if from == NONE {
+        return wide(transfer) + v;
+    }
+    least(own + v, d)
 }
 
 // The least cost of i requests where the gaps above c are covered.
@@ -129,22 +144,24 @@ fn row(
     seconds: &[u32; 2049],
     servers: &[u16; 2049],
     previous: &[u16; 2049],
+    owns: &[u64; 2049],
     costs: &[u64],
     keeps: &[u64],
     c: u16,
     i: u16,
 ) -> u64
     requires { ⌜ Ready prices (now seconds) (now servers) (now previous) i ⌝ }
+    requires { ⌜ Owned prices (asks (now seconds) (now servers)) i (now owns) ⌝ }
     requires { ⌜ Tabled prices (asks (now seconds) (now servers)) i (at (now costs)) (at (now keeps)) ⌝ }
     requires { ⌜ (c ≤ i) × (i < length (now costs)) × (i < length (now keeps)) ⌝ }
     ensures { λ r. ⌜ r ≡ row prices (asks (now (seconds .entry)) (now (servers .entry))) (at (now (costs .entry))) (at (now (keeps .entry))) c i ⌝ }
 {
-    let first = size(c);
-    let mut v = costs[first];
-    let mut k = c;
-    while k < i {
-        v = row_step(prices, seconds, servers, previous, keeps, c, k, v);
+    let end = size(i);
+    let mut k = size(c);
+    let mut v = costs[k];
+    while k < end {
         k += 1;
+        v = next_cost(prices.transfer, previous[k], owns[k], keeps[k], v);
     }
     v
 }
@@ -155,12 +172,14 @@ fn next_keep(
     seconds: &[u32; 2049],
     servers: &[u16; 2049],
     previous: &[u16; 2049],
+    owns: &[u64; 2049],
     costs: &[u64],
     keeps: &[u64],
     a: Terms,
     i: u16,
 ) -> u64
     requires { ⌜ Ready prices (now seconds) (now servers) (now previous) (suc i) ⌝ }
+    requires { ⌜ Owned prices (asks (now seconds) (now servers)) i (now owns) ⌝ }
     requires { ⌜ Tabled prices (asks (now seconds) (now servers)) i (at (now costs)) (at (now keeps)) ⌝ }
     requires { ⌜ (a ≡ terms-of prices (asks (now seconds) (now servers)) i) × (i < length (now costs)) × (i < length (now keeps)) ⌝ }
     ensures { λ r. ⌜ r ≡ next-D prices (asks (now (seconds .entry)) (now (servers .entry))) (at (now (costs .entry))) (at (now (keeps .entry))) i ⌝ }
@@ -168,7 +187,18 @@ fn next_keep(
     if a.from == NONE {
         return 0;
     }
-    a.span + row(prices, seconds, servers, previous, costs, keeps, a.from, i)
+    a.span
+        + row(
+            prices,
+            seconds,
+            servers,
+            previous,
+            owns,
+            costs,
+            keeps,
+            a.from,
+            i,
+        )
 }
 
 // C(i + 1) and D(i + 1), after those up to i.
@@ -177,11 +207,13 @@ fn extend(
     seconds: &[u32; 2049],
     servers: &[u16; 2049],
     previous: &[u16; 2049],
+    owns: &[u64; 2049],
     i: u16,
     costs: &mut [u64],
     keeps: &mut [u64],
 )
     requires { ⌜ Ready prices (now seconds) (now servers) (now previous) (suc i) ⌝ }
+    requires { ⌜ Owned prices (asks (now seconds) (now servers)) i (now owns) ⌝ }
     requires { ⌜ Tabled prices (asks (now seconds) (now servers)) i (at (now costs)) (at (now keeps)) ⌝ }
     requires { ⌜ (suc i < length (now costs)) × (suc i < length (now keeps)) ⌝ }
     ensures { λ _. ⌜ now (costs .exit) ≡ set (now (costs .entry)) (suc i) (next-C prices (asks (now (seconds .entry)) (now (servers .entry))) i (next-D prices (asks (now (seconds .entry)) (now (servers .entry))) (at (now (costs .entry))) (at (now (keeps .entry))) i) (at (now (costs .entry)) i)) ⌝ }
@@ -189,7 +221,7 @@ fn extend(
 {
     let k = size(i);
     let a = terms_at(prices, seconds, servers, previous, i);
-    let d = next_keep(prices, seconds, servers, previous, costs, keeps, a, i);
+    let d = next_keep(prices, seconds, servers, previous, owns, costs, keeps, a, i);
     let sent = wide(prices.transfer) + a.gap + costs[k];
     costs[k + 1] = cheaper(a, sent, d);
     keeps[k + 1] = d;
@@ -212,9 +244,14 @@ pub(crate) fn fill(
 {
     costs[0] = 0;
     keeps[0] = 0;
+    if n == 0 {
+        return;
+    }
+    let mut owns = [0u64; 2049];
+    own_costs(prices, seconds, servers, previous, n, &mut owns);
     let mut i: u16 = 0;
     while i < n {
-        extend(prices, seconds, servers, previous, i, costs, keeps);
+        extend(prices, seconds, servers, previous, &owns, i, costs, keeps);
         i += 1;
     }
 }

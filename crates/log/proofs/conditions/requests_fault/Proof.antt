@@ -1,10 +1,11 @@
 -- `log::conditions::requests_fault` meets its contract. Assumes nothing.
 use borrow.Author.Needs.{needs}
 use mathlib.Core.Path.{_≡_, refl, sym, _∙_}
-use Prim.Native.Nat.{_≤_, _-_}
+use Prim.Native.Nat.{suc, _≤_, _+_, _*_, _-_}
 use native.Mathlib.Omega.{arith}
 use native.Mathlib.Numerals.{add-one}
 use Rattle.log.specs.ConditionLaws.{request-found}
+use Rattle.base.specs.Bytes.{le16, le32}
 use Rattle.base.specs.Refusals.{first, each}
 use Rattle.base.specs.RefusalLaws.{each-refused}
 use Rattle.base.specs.declared.Verdict.the-variants.{Passed}
@@ -30,24 +31,6 @@ loop-holds : tie.Need-loop-holds Inv-loop μ-loop
 unfolding first each before
 loop-holds c = (search needs, refl, refl)
 
-fault-at-requires : tie.Need-fault-at-requires Inv-loop μ-loop
-fault-at-requires c κs = search needs
-
-enum-known-v : tie.Need-enum-known-v Inv-loop μ-loop
-enum-known-v c = search needs
-
-returns : tie.Need-returns Inv-loop μ-loop
-unfolding request-count server-count
-returns c =
-    let p = c .before .before .before in
-    let l = p .before .before .loop in
-    let log = p .before .before .before .before .before .before .args .log .now in
-    sym (each-refused (log-requests log) (l .i) (request-count log) _ (search needs) (l .inv .1)
-    (request-found log (l .i) _ (l .earlier) _ (search needs) (p .before .before .before .before .at .ensures) (l .inv .2) (p .fault-at .ensures) ∙ c .before .v .given .1))
-
-enum-told : tie.Need-enum-told Inv-loop μ-loop
-enum-told c = search needs
-
 size-requires : tie.Need-size-requires Inv-loop μ-loop
 size-requires c κs = search needs
 
@@ -60,6 +43,40 @@ add-at32 c = search needs
 at32-requires : tie.Need-at32-requires Inv-loop μ-loop
 at32-requires c κs = search needs
 
+mul-at16 : tie.Need-mul-at16 Inv-loop μ-loop
+mul-at16 c = search needs
+
+add-at16 : tie.Need-add-at16 Inv-loop μ-loop
+add-at16 c = search needs
+
+at16-requires-2 : tie.Need-at16-requires-2 Inv-loop μ-loop
+at16-requires-2 c κs = search needs
+
+place-requires : tie.Need-place-requires Inv-loop μ-loop
+place-requires c κs = search needs
+
+request-fault-requires : tie.Need-request-fault-requires Inv-loop μ-loop
+request-fault-requires c κs = search needs
+
+enum-known-v : tie.Need-enum-known-v Inv-loop μ-loop
+enum-known-v c = search needs
+
+returns : tie.Need-returns Inv-loop μ-loop
+unfolding request-count server-count
+returns c =
+    let p = c .before .before .before in
+    let l = p .before .before .before .before .before .before .loop in
+    let log = p .before .before .before .before .before .before .before .before .before .before .args .log .now in
+    let k : p .before .before .before .before .size .result ≡ l .i = p .before .before .before .before .size .ensures .0 in
+    let second : p .before .before .before .at32 .result ≡ le32 log (40 + 6 * l .i) = rw k at (p .before .before .before .at32 .ensures) in
+    let server : p .before .before .at162 .result ≡ le16 log (44 + 6 * l .i) = rw k at (p .before .before .at162 .ensures) in
+    let place : p .before .place .result ≡ suc (l .i) = rw k at (p .before .place .ensures) in
+    sym (each-refused (log-requests log) (l .i) (request-count log) _ (search needs) (l .inv .1)
+    (request-found log (l .i) _ _ _ _ _ _ (search needs) (p .before .before .before .before .before .before .before .before .at .ensures) server second (l .inv .2) place (p .request-fault .ensures) ∙ c .before .v .given .1))
+
+enum-told : tie.Need-enum-told Inv-loop μ-loop
+enum-told c = search needs
+
 add-i : tie.Need-add-i Inv-loop μ-loop
 add-i c = search needs
 
@@ -69,15 +86,19 @@ loop-less c = search needs
 loop-again : tie.Need-loop-again Inv-loop μ-loop
 unfolding request-count server-count
 loop-again c =
-    let p = c .before .before .before .before in
-    let l = p .before .before .loop in
-    let log = p .before .before .before .before .before .before .args .log .now in (
+    let p = c .before .before in
+    let l = p .before .before .before .before .before .before .loop in
+    let log = p .before .before .before .before .before .before .before .before .before .before .args .log .now in
+    let k : p .before .before .before .before .size .result ≡ l .i = p .before .before .before .before .size .ensures .0 in
+    let second : p .before .before .before .at32 .result ≡ le32 log (40 + 6 * l .i) = rw k at (p .before .before .before .at32 .ensures) in
+    let server : p .before .before .at162 .result ≡ le16 log (44 + 6 * l .i) = rw k at (p .before .before .at162 .ensures) in
+    let place : p .before .place .result ≡ suc (l .i) = rw k at (p .before .place .ensures) in (
       search needs,
       rw (add-one (l .i))
           (each-more (log-requests log) (l .i) (l .inv .1)
-          (request-found log (l .i) _ (l .earlier) _ (search needs) (p .before .before .before .before .at .ensures) (l .inv .2) (p .fault-at .ensures)
-          ∙ c .before .before .enum-told .given .1)),
-      rw (c .at32 .ensures, c .before .size .ensures .0, add-one (l .i)) (sym (before-next log (l .i) (search needs))),
+          (request-found log (l .i) _ _ _ _ _ _ (search needs) (p .before .before .before .before .before .before .before .before .at .ensures) server second (l .inv .2) place (p .request-fault .ensures)
+          ∙ c .enum-told .given .1)),
+      rw (second, add-one (l .i)) (sym (before-next log (l .i) (search needs))),
     )
 
 returns-2 : tie.Need-returns-2 Inv-loop μ-loop
@@ -97,14 +118,18 @@ requests-fault-spec =
     at-requires
     at16-requires
     loop-holds
-    fault-at-requires
-    enum-known-v
-    returns
-    enum-told
     size-requires
     mul-at32
     add-at32
     at32-requires
+    mul-at16
+    add-at16
+    at16-requires-2
+    place-requires
+    request-fault-requires
+    enum-known-v
+    returns
+    enum-told
     add-i
     loop-less
     loop-again

@@ -20,7 +20,7 @@ terms-at-requires c κs = search needs
 next-keep-requires : tie.Need-next-keep-requires
 next-keep-requires c κs =
     let s = c .before .before .before .before .before .before in
-    (s .pre .0, (s .pre .1 .0, (c .before .before .terms-at .ensures, search needs, search needs)))
+    (s .pre .0, (s .pre .1 .0, (s .pre .1 .1 .0, (c .before .before .terms-at .ensures, search needs, search needs))))
 
 wide-requires : tie.Need-wide-requires
 wide-requires c κs = search needs
@@ -51,7 +51,7 @@ add-sent-2 c =
     (omega (
       arith,
       terms-small (a .prices) q (a .i) (omega arith) _ (c .before .before .before .before .before .before .terms-at .ensures) (s .pre .0 .fits),
-      s .pre .1 .0 .costs (a .i) (omega arith),
+      s .pre .1 .1 .0 .costs (a .i) (omega arith),
       best-small (a .prices) q (suc (a .i)) (s .pre .0 .fits) (a .i) (a .i) (omega arith) (omega arith),
     ))
 
@@ -65,7 +65,9 @@ mul-costs : tie.Need-mul-costs
 mul-costs c = search needs
 
 slice-write-costs : tie.Need-slice-write-costs
-slice-write-costs c = search needs
+slice-write-costs c =
+    let room = c .before .before .before .before .before .before .before .before .before .before .before .pre .1 .1 .1 in
+    search needs
 
 add-keeps : tie.Need-add-keeps
 add-keeps c = search needs
@@ -74,7 +76,9 @@ mul-keeps : tie.Need-mul-keeps
 mul-keeps c = search needs
 
 slice-write-keeps : tie.Need-slice-write-keeps
-slice-write-keeps c = search needs
+slice-write-keeps c =
+    let room = c .before .before .before .before .before .before .before .before .before .before .before .pre .1 .1 .1 in
+    search needs
 
 same-length : tie.Need-same-length
 same-length c = search needs

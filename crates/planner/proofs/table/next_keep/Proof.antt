@@ -15,7 +15,7 @@ returns c =
     let s = c .before .before .before .before in
     let a = s .args in
     let few = s .pre .0 .fits .requests-most in
-    sym (keep-none (a .prices) (asks (a .seconds .now) (a .servers .now)) (a .i) (omega arith) (a .a) (s .pre .1 .1 .0) (at (a .costs .now)) (at (a .keeps .now)) (c .if1 .taken))
+    sym (keep-none (a .prices) (asks (a .seconds .now) (a .servers .now)) (a .i) (omega arith) (a .a) (s .pre .1 .1 .1 .0) (at (a .costs .now)) (at (a .keeps .now)) (c .if1 .taken))
 
 row-requires : tie.Need-row-requires
 row-requires c κs =
@@ -26,9 +26,12 @@ row-requires c κs =
       (
         s .pre .1 .0,
         (
-          from-below (a .prices) (asks (a .seconds .now) (a .servers .now)) (a .i) (omega arith) (a .a) (s .pre .1 .1 .0) (c .if1 .left),
-          search needs,
-          search needs,
+          s .pre .1 .1 .0,
+          (
+            from-below (a .prices) (asks (a .seconds .now) (a .servers .now)) (a .i) (omega arith) (a .a) (s .pre .1 .1 .1 .0) (c .if1 .left),
+            search needs,
+            search needs,
+          ),
         ),
       ),
     )
@@ -43,8 +46,8 @@ add-result c =
     omega (
       arith,
       c .before .row .ensures,
-      terms-small (a .prices) q (a .i) (omega arith) (a .a) (s .pre .1 .1 .0) (s .pre .0 .fits),
-      row-small (a .prices) q (a .i) (fits-less (a .prices) q (suc (a .i)) (s .pre .0 .fits) (a .i) (omega arith)) (at (a .costs .now)) (at (a .keeps .now)) (a .a .from) (a .i) (s .pre .1 .0) (from-below (a .prices) q (a .i) (omega arith) (a .a) (s .pre .1 .1 .0) left) (omega arith),
+      terms-small (a .prices) q (a .i) (omega arith) (a .a) (s .pre .1 .1 .1 .0) (s .pre .0 .fits),
+      row-small (a .prices) q (a .i) (fits-less (a .prices) q (suc (a .i)) (s .pre .0 .fits) (a .i) (omega arith)) (at (a .costs .now)) (at (a .keeps .now)) (a .a .from) (a .i) (s .pre .1 .1 .0) (from-below (a .prices) q (a .i) (omega arith) (a .a) (s .pre .1 .1 .1 .0) left) (omega arith),
     )
 
 returns-2 : tie.Need-returns-2
@@ -53,7 +56,7 @@ returns-2 c =
     let a = s .args in
     let few = s .pre .0 .fits .requests-most in
     rw (c .before .row .ensures)
-    (sym (keep-some (a .prices) (asks (a .seconds .now) (a .servers .now)) (a .i) (omega arith) (a .a) (s .pre .1 .1 .0) (at (a .costs .now)) (at (a .keeps .now)) (c .before .before .if1 .left)))
+    (sym (keep-some (a .prices) (asks (a .seconds .now) (a .servers .now)) (a .i) (omega arith) (a .a) (s .pre .1 .1 .1 .0) (at (a .costs .now)) (at (a .keeps .now)) (c .before .before .if1 .left)))
 
 pub next-keep-spec : {M : Type 1} → statement M
 next-keep-spec = tie.close (tie.spec returns row-requires add-result returns-2)

@@ -1,24 +1,27 @@
 -- `planner::table::row` meets its contract. Assumes nothing.
 use borrow.Author.Needs.{needs}
-use mathlib.Core.Path.{_≡_, sym}
-use native.Mathlib.Numerals.{add-one}
+use mathlib.Core.Path.{_≡_, sym, _∙_}
 use native.Mathlib.Omega.{arith}
-use Prim.Native.Nat.{suc, _-_, _≤_}
+use Prim.Native.Nat.{_-_, _≤_}
 use Rattle.model.specs.TableLists.{at}
-use Rattle.model.specs.TableRows.{row, row-start, row-next}
+use Rattle.model.specs.TableRows.{row, row-start}
 use Rattle.planner.specs.Asked.{asks}
-use Rattle.planner.specs.Fits.{ready-less, row-small}
+use Rattle.planner.specs.Fits.{row-small}
+use Rattle.planner.specs.StepLaws.{owned-small, row-more}
 use Rattle.planner.proofs.table.row.Statement.{statement}
 use Rattle.planner.proofs.table.row.Tie as tie
 
 abbrev Inv-loop : tie.InvT-loop
-Inv-loop prices seconds servers previous costs keeps c i first v₀ k₀ v k = (c ≤ k) × (k ≤ i) × (v ≡ row prices (asks seconds servers) (at costs) (at keeps) c k)
+Inv-loop prices seconds servers previous owns costs keeps c i end k₀ v₀ k v = (c ≤ k) × (k ≤ i) × (v ≡ row prices (asks seconds servers) (at costs) (at keeps) c k)
 
 abbrev μ-loop : tie.MeasureT-loop
-μ-loop prices seconds servers previous costs keeps c i first v₀ k₀ v k = i - k
+μ-loop prices seconds servers previous owns costs keeps c i end k₀ v₀ k v = end - k
 
 size-requires : tie.Need-size-requires Inv-loop μ-loop
 size-requires c κs = search needs
+
+size-requires-2 : tie.Need-size-requires-2 Inv-loop μ-loop
+size-requires-2 c κs = search needs
 
 mul-v : tie.Need-mul-v Inv-loop μ-loop
 mul-v c = search needs
@@ -28,47 +31,66 @@ shared-slice-read-v c = search needs
 
 loop-holds : tie.Need-loop-holds Inv-loop μ-loop
 loop-holds c =
-    let a = c .before .before .before .before .args in (
-      search needs,
-      search needs,
-      rw (c .before .size .ensures .0) (sym (row-start (a .prices) (asks (a .seconds .now) (a .servers .now)) (at (a .costs .now)) (at (a .keeps .now)) (a .c))),
-    )
-
-row-step-requires : tie.Need-row-step-requires Inv-loop μ-loop
-row-step-requires c κs =
-    let s = c .before .before .before .before .before .before in
-    let a = s .args in
-    let l = c .before .loop in (
-      ready-less (a .prices) (a .seconds .now) (a .servers .now) (a .previous .now) (a .i) (suc (l .k)) (search needs) (s .pre .0),
-      (
-        search needs,
-        rw (l .inv .2)
-            (row-small (a .prices) (asks (a .seconds .now) (a .servers .now)) (a .i) (s .pre .0 .fits) (at (a .costs .now)) (at (a .keeps .now)) (a .c) (l .k) (s .pre .1 .0) (search needs) (search needs)),
-      ),
+    let a = c .before .before .before .before .before .args in
+    let e = c .before .size2 .ensures .0 in (
+      omega (arith, e),
+      omega (arith, e),
+      rw e (sym (row-start (a .prices) (asks (a .seconds .now) (a .servers .now)) (at (a .costs .now)) (at (a .keeps .now)) (a .c))),
     )
 
 add-k : tie.Need-add-k Inv-loop μ-loop
 add-k c = search needs
+
+mul-next-cost : tie.Need-mul-next-cost Inv-loop μ-loop
+mul-next-cost c = search needs
+
+element-copy-out-next-cost : tie.Need-element-copy-out-next-cost Inv-loop μ-loop
+element-copy-out-next-cost c = search needs
+
+mul-next-cost-2 : tie.Need-mul-next-cost-2 Inv-loop μ-loop
+mul-next-cost-2 c = search needs
+
+element-copy-out-next-cost-2 : tie.Need-element-copy-out-next-cost-2 Inv-loop μ-loop
+element-copy-out-next-cost-2 c = search needs
+
+mul-next-cost-3 : tie.Need-mul-next-cost-3 Inv-loop μ-loop
+mul-next-cost-3 c = search needs
+
+shared-slice-read-next-cost : tie.Need-shared-slice-read-next-cost Inv-loop μ-loop
+shared-slice-read-next-cost c = search needs
+
+next-cost-requires : tie.Need-next-cost-requires Inv-loop μ-loop
+next-cost-requires c κs =
+    let s = c .before .before .before .before .before .before .before .before .before .before in
+    let a = s .args in
+    let l = c .before .before .before .before .loop in
+    let e = c .before .before .before .before .before .before .before .size .ensures .0 in (
+      owned-small (a .prices) (a .seconds .now) (a .servers .now) (a .previous .now) (a .owns .now) (a .i) (s .pre .0) (s .pre .1 .0) (l .k) (omega arith),
+      rw (l .inv .2)
+          (row-small (a .prices) (asks (a .seconds .now) (a .servers .now)) (a .i) (s .pre .0 .fits) (at (a .costs .now)) (at (a .keeps .now)) (a .c) (l .k) (s .pre .1 .1 .0) (l .inv .0) (l .inv .1)),
+    )
 
 loop-less : tie.Need-loop-less Inv-loop μ-loop
 loop-less c = search needs
 
 loop-again : tie.Need-loop-again Inv-loop μ-loop
 loop-again c =
-    let s = c .before .before .before .before .before .before .before in
+    let s = c .before .before .before .before .before .before .before .before .before .before .before in
     let a = s .args in
-    let l = c .before .before .loop in (
-      search needs,
-      search needs,
-      rw (c .row-step .ensures, l .inv .2, add-one (l .k))
-          (sym (row-next (a .prices) (asks (a .seconds .now) (a .servers .now)) (at (a .costs .now)) (at (a .keeps .now)) (a .c) (l .k) (search needs))),
+    let l = c .before .before .before .before .before .loop in
+    let e = c .before .before .before .before .before .before .before .before .size .ensures .0 in (
+      omega (arith, l .inv .0),
+      omega arith,
+      c .next-cost .ensures
+          ∙ row-more (a .prices) (a .seconds .now) (a .servers .now) (a .previous .now) (a .owns .now) (a .i) (s .pre .0) (s .pre .1 .0) (a .costs .now) (a .keeps .now) (s .pre .1 .1 .0) (a .c) (l .k) (l .v) (l .inv .0) (omega arith) (l .inv .2),
     )
 
 returns : tie.Need-returns Inv-loop μ-loop
 returns c =
-    let a = c .before .before .before .before .before .before .args in
+    let s = c .before .before .before .before .before .before .before in
     let l = c .before .loop in
-    let e : l .k ≡ a .i = omega arith in
+    let end = c .before .before .before .before .size .ensures .0 in
+    let e : l .k ≡ s .args .i = omega (arith, l .inv .1) in
     rw e at (l .inv .2)
 
 pub row-spec : {M : Type 1} → statement M
@@ -78,11 +100,18 @@ row-spec =
     Inv-loop
     μ-loop
     size-requires
+    size-requires-2
     mul-v
     shared-slice-read-v
     loop-holds
-    row-step-requires
     add-k
+    mul-next-cost
+    element-copy-out-next-cost
+    mul-next-cost-2
+    element-copy-out-next-cost-2
+    mul-next-cost-3
+    shared-slice-read-next-cost
+    next-cost-requires
     loop-less
     loop-again
     returns)

@@ -1,9 +1,9 @@
--- `base::bytes::at32` meets its contract: past the end `le32` gives 0. Assumes nothing.
+-- `base::bytes::edge32` meets its contract: past the end `le32` gives 0. Assumes nothing.
 use borrow.Author.Needs.{needs}
 use mathlib.Core.Path.{sym}
 use Rattle.base.specs.BytesLaws.{le32-past}
-use Rattle.base.proofs.bytes.at32.Statement.{statement}
-use Rattle.base.proofs.bytes.at32.Tie as tie
+use Rattle.base.proofs.bytes.edge32.Statement.{statement}
+use Rattle.base.proofs.bytes.edge32.Tie as tie
 
 returns : tie.Need-returns
 returns c = sym (le32-past (c .before .before .args .s .now) (c .before .before .args .i) (c .if1 .taken))
@@ -32,8 +32,8 @@ add-result c = search needs
 returns-2 : tie.Need-returns-2
 returns-2 c = search needs
 
-pub at32-spec : {M : Type 1} → statement M
-at32-spec =
+pub edge32-spec : {M : Type 1} → statement M
+edge32-spec =
     tie.close
     (tie.spec
     returns
