@@ -52,26 +52,6 @@ le16-behind xs ys i = rw (add-assoc, byte-behind xs ys i, byte-behind xs ys (i +
 pub le32-behind : (xs ys : List ℕ) (i : ℕ) → le32 (xs ++ ys) (length xs + i) ≡ le32 ys i
 le32-behind xs ys i = simp (add-assoc, getD-append-add)
 
--- two bytes that were written at a place are read there
-pub le16-written : (xs rest : List ℕ) (n x : ℕ) → length xs ≡ n → x < 65536 → le16 (xs ++ (bytes 2 x ++ rest)) n ≡ x
-le16-written xs rest n x e h =
-    let z : n ≡ length xs + 0 = omega arith in
-    rw (z, le16-behind) (le16-bytes x rest h)
-
--- and four
-pub le32-written : (xs rest : List ℕ) (n x : ℕ) → length xs ≡ n → x < 2 ^ 32 → le32 (xs ++ (bytes 4 x ++ rest)) n ≡ x
-le32-written xs rest n x e h =
-    let z : n ≡ length xs + 0 = omega arith in
-    rw (z, le32-behind) (le32-bytes x rest h)
-
--- a number of two bytes is below 2 ^ 16
-pub le16-small : (s : List ℕ) (i : ℕ) → Are-bytes s → le16 s i < 65536
-le16-small s i b = omega (arith, b i, b (i + 1))
-
--- and one of four below 2 ^ 32
-pub le32-small : (s : List ℕ) (i : ℕ) → Are-bytes s → le32 s i < 2 ^ 32
-le32-small s i b = omega (arith, le16-small s i b, le16-small s (i + 2) b)
-
 -- the number in the n bytes from i on
 unfoldable number : ℕ → List ℕ → ℕ → ℕ
 number zero s i = 0

@@ -1,9 +1,9 @@
 -- A lent list filled from its front, then zeroed beyond.
 use mathlib.Core.List.{List, [], _∷_, _++_, append-assoc}
-use mathlib.Core.Path.{_≡_, refl, ap, sym, _∙_}
+use mathlib.Core.Path.{_≡_, sym}
 use Prim.Native.Nat.{ℕ, suc, _-_, _≤_, _<_}
 use native.Mathlib.Omega.{arith}
-use lib.ListN.{length, drop, getD, set, replicate, length-append, length-drop}
+use lib.ListN.{length, drop, getD, set, length-append, length-drop}
 use lib.Seq.{drop-cons, set-at, take-at}
 use Rattle.base.specs.declared.Verdict.the-variants.{Passed}
 use Rattle.base.specs.Lent.{lent}

@@ -49,10 +49,6 @@ lowest-passes n f k l h = elim (le-or-lt (lowest n f) k) [
   | inr g ↦ absurd (not-both h (lowest-is n f .none k g))
 ]
 
--- where none passes it is n
-pub lowest-none : (n : ℕ) (f : ℕ → Bool) → ((j : ℕ) → j < n → f j ≡ false) → lowest n f ≡ n
-lowest-none n f h = lowest-unique n f n (record { within = omega arith; none = h; met = λ l. absurd (omega arith) })
-
 -- tests that agree below n have the same lowest
 pub lowest-same : (n : ℕ) (f g : ℕ → Bool) → ((j : ℕ) → j < n → f j ≡ g j) → lowest n f ≡ lowest n g
 lowest-same n f g h =

@@ -1,5 +1,5 @@
 -- A set of servers in a word: server k is a member where bit k is 1. Assumes nothing.
-use mathlib.Core.Bool.{Bool, true, false}
+use mathlib.Core.Bool.{Bool}
 use Prim.Native.Nat.{ℕ, zero, suc, _+_, _-_, _/_, _%_, _^_}
 use lib.Dec.{eqb, ltb}
 use Rattle.base.specs.Choice.{pick}

@@ -3,7 +3,7 @@ use mathlib.Core.List.{List, [], _∷_}
 use mathlib.Core.Path.{_≡_, sym, _∙_}
 use Prim.Native.Nat.{ℕ, _+_, _*_, _≤_}
 use borrow.Author.Tests.{ltb-false}
-use Rattle.base.specs.Refusals.{first, short}
+use Rattle.base.specs.Refusals.{short}
 use Rattle.base.specs.RefusalLaws.{first-append, otherwise-passed, first-passed}
 use Rattle.base.specs.declared.Verdict.the-variants.{Passed}
 use Rattle.log.specs.Fields.{request-count, length-for}

@@ -1,7 +1,7 @@
 -- What a log says, read from its bytes and written to them. Assumes nothing.
 use mathlib.Core.Bool.{not}
 use mathlib.Core.List.{List, [], _∷_, _++_}
-use Prim.Native.Nat.{ℕ, zero, suc, _+_}
+use Prim.Native.Nat.{ℕ, zero, suc}
 use lib.Dec.{ltb, eqb}
 use lib.ListN.{getD, length, take}
 use Rattle.base.specs.Choice.{either}

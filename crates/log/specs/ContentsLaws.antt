@@ -1,13 +1,13 @@
 -- The conditions on what is to be written, part by part, as the code comes by them.
 use mathlib.Core.Bool.{Bool, true, false, not}
-use mathlib.Core.List.{List, [], _∷_, _++_, append-assoc}
+use mathlib.Core.List.{[], _∷_, _++_, append-assoc}
 use mathlib.Core.Path.{_≡_, refl, ap, sym, _∙_}
 use Prim.Native.Nat.{ℕ, _≤_}
 use native.Mathlib.Omega.{arith}
 use lib.Dec.{ltb, eqb}
 use lib.ListN.{length}
 use borrow.Author.Tests.{ltb-false, eqb-true, not-false}
-use Rattle.base.specs.Choice.{either, pick}
+use Rattle.base.specs.Choice.{either}
 use Rattle.base.specs.Refusals.{Condition, refuse, first, each, or-else}
 use Rattle.base.specs.RefusalLaws.{first-append, otherwise, from, from-first, from-append}
 use Rattle.base.specs.declared.Verdict.{Verdict}

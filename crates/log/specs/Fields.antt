@@ -1,7 +1,6 @@
 -- The fields of a log's bytes, as 01's 'The log' places them. Assumes nothing.
 use mathlib.Core.List.{List}
 use Prim.Native.Nat.{ℕ, _+_, _*_}
-use lib.ListN.{take, drop}
 use Rattle.base.specs.Bytes.{byte, le16, le32}
 use Rattle.base.specs.Lists.{build}
 use Rattle.log.specs.declared.Header.{Header}

@@ -6,7 +6,6 @@ ghost use lib.ListN.{length, take, drop};
 ghost use Rattle.base.specs.Bytes.{bytes};
 ghost use Rattle.base.specs.Lent.{lent};
 ghost use Rattle.base.specs.Lists.{splice};
-ghost use Rattle.log.specs.Fields.{length-for};
 ghost use Rattle.log.specs.Sum.{sum-of};
 ghost use Rattle.log.specs.Contents.{contents, head, request-bytes, requests-bytes, encode};
 ghost use Rattle.log.specs.Answers.{write-verdict, written};

@@ -9,7 +9,7 @@ use Rattle.prices.specs.declared.Prices.{Prices}
 use Rattle.model.specs.Requests.{Requests, latest, previous}
 use Rattle.model.specs.RequestLaws.{previous-some}
 use Rattle.model.specs.Marking.{Mark, K, S, legal, gap}
-use Rattle.model.specs.Table.{open-gap, table, send-price, free, best}
+use Rattle.model.specs.Table.{open-gap, table, send-price, best}
 
 -- they agree up to request n
 pub record Alike (q q′ : Requests) (n : ℕ) : Type 0 where
@@ -59,11 +59,6 @@ module _ (q q′ : Requests) (n : ℕ) (alike : Alike q q′ n) where
       go (some j) true e a ih =
           rw (previous-alike (suc i) h, e, may (suc i) h, a, table) (omega (arith, pays i c h, spans j e, ih (min c i), ih (min c j)))
       go (some j) false e a ih = rw (previous-alike (suc i) h, e, may (suc i) h, a, table) (omega (arith, spans j e, ih (min c j)))
-
-  -- the same free table
-  pub free-alike : (p : Prices) (i c : ℕ) → i ≤ n → free p q i c ≡ free p q′ i c
-  unfolding free send-price
-  free-alike p = table-alike p (λ i. true) (λ i. true) (send-price p q) (send-price p q′) (λ i h. refl) (λ i c h. rw (open-gap-alike p i c h))
 
   -- the same table of the legal markings
   pub best-alike : (p : Prices) (i c : ℕ) → i ≤ n → best p q i c ≡ best p q′ i c

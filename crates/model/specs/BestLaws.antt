@@ -1,7 +1,7 @@
 -- The table of the legal markings, by their marks: where K and S are legal, and the table's laws in those words.
 use mathlib.Core.Bool.{true, false, not}
 use mathlib.Core.Logic.{inl}
-use mathlib.Core.Option.{Option, none, some}
+use mathlib.Core.Option.{none, some}
 use mathlib.Core.Path.{_≡_, refl, sym, ap}
 use native.Mathlib.Omega.{arith}
 use Prim.Native.Nat.{ℕ, zero, suc, _+_, _≤_, min}
@@ -10,7 +10,7 @@ use borrow.Author.Tests.{ne-eqb, eqb-true, not-false}
 use Rattle.prices.specs.declared.Prices.{Prices}
 use Rattle.model.specs.Requests.{Requests, previous}
 use Rattle.model.specs.RequestLaws.{previous-none, previous-next}
-use Rattle.model.specs.Marking.{Mark, K, S, legal, some?}
+use Rattle.model.specs.Marking.{K, S, legal, some?}
 use Rattle.model.specs.Table.{table, send-price, best}
 use Rattle.model.specs.TableLaws.{span, May, table-away, table-kept}
 

@@ -4,9 +4,8 @@ use mathlib.Core.List.{List, [], _∷_, _++_}
 use Prim.Native.Nat.{ℕ, suc, pred, _*_, _/_, _%_}
 use lib.Dec.{ltb, eqb}
 use lib.ListN.{getD, length}
-use Rattle.base.specs.declared.Verdict.{Verdict}
 use Rattle.base.specs.Choice.{both, either}
-use Rattle.base.specs.Refusals.{Condition, refuse, first, each}
+use Rattle.base.specs.Refusals.{Condition, refuse, each}
 use Rattle.prices.specs.declared.Prices.{Prices}
 use Rattle.model.specs.Requests.{Requests}
 use Rattle.model.specs.Schedule.{Row, hold, move, transfer, cost-of}
@@ -51,10 +50,6 @@ schedule-conditions count q n ns =
     refuse 14 0 (not (eqb (length ns % 4) 0))
     ∷ (each (row-conditions count q n ns) (row-count ns)
     ++ (each (copy-condition count q ns) (row-count ns) ++ each (serve-condition count q ns) n))
-
--- refused by the first of these that holds, or passed
-unfoldable pub check-verdict : ℕ → Requests → ℕ → List ℕ → Verdict
-check-verdict count q n ns = first (schedule-conditions count q n ns)
 
 -- the cost that the checker answers where none holds
 unfoldable pub check-cost : Prices → List ℕ → ℕ

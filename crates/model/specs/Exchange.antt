@@ -6,7 +6,7 @@ use mathlib.Core.Option.{some}
 use mathlib.Core.Path.{_≡_, refl, ap, _∙_}
 use native.Mathlib.Nat.{mul-le-mul-left, mul-sub, min-eq-left, min-eq-right}
 use native.Mathlib.Omega.{arith}
-use Prim.Native.Nat.{ℕ, zero, suc, _+_, _-_, _≤_, _<_, min}
+use Prim.Native.Nat.{ℕ, zero, suc, _+_, _≤_, _<_, min}
 use borrow.Author.Tests.{not-false, eqb-true}
 use Rattle.base.specs.Choice.{le-or-lt, true-or-false}
 use Rattle.prices.specs.declared.Prices.{Prices}

@@ -99,10 +99,6 @@ module _ (q : Requests) (m : ℕ → Mark) where
               absurd (not-both (rw p at (span-held i k a b t)) (f (omega arith))))
         ]
 
-    -- a server that holds over gap 1 is home
-    pub first-holder : (y : ℕ) → holds q m n 1 y ≡ true → y ≡ q .server 0
-    first-holder y e = new-holder 0 y e (λ h. absurd (omega arith))
-
     -- a K request's server holds over the gap before it
     pub kept-held : Valid q m n → (i : ℕ) → 1 ≤ i → i ≤ n → m i ≡ K → holds q m n i (q .server i) ≡ true
     kept-held v i a b e =

@@ -1,17 +1,16 @@
 -- The requests of an accepted log rise and stay below its server count, and a cut log has the first of them.
-use mathlib.Core.List.{List, [], _∷_}
-use mathlib.Core.Path.{_≡_, refl, ap, sym, _∙_}
-use Prim.Native.Nat.{ℕ, zero, suc, _≤_, _<_}
-use native.Mathlib.Omega.{arith}
+use mathlib.Core.List.{List, _∷_}
+use mathlib.Core.Path.{_≡_, refl, ap}
+use Prim.Native.Nat.{ℕ, zero, suc, _≤_}
 use lib.ListN.{getD, take}
 use lib.Seq.{getD-take}
-use Rattle.log.specs.Fields.{class-of, server-count, home-of, request-count, seconds-of, servers-of, header-of}
+use Rattle.log.specs.Fields.{server-count, home-of, request-count, seconds-of, servers-of, header-of}
 use Rattle.log.specs.Conditions.{Accepted}
 use Rattle.log.specs.Contents.{Contents, decode, first-requests, cut}
 use Rattle.log.specs.AcceptedLaws.{accepted-sound, before-is}
 use Rattle.log.specs.Cutting.{cut-decodes}
 use Rattle.prices.specs.Prices.{prices-of}
-use Rattle.model.specs.Requests.{Requests, requests, Rising, Within}
+use Rattle.model.specs.Requests.{requests, Rising, Within}
 use Rattle.model.specs.LogRequests.{requests-in, prices-in}
 use Rattle.model.specs.Alike.{Alike}
 
@@ -43,10 +42,6 @@ module _ (s : List ℕ) (k : ℕ) (a : Accepted s) (h : k ≤ request-count s) w
   pub cut-home : home-of (cut k s) ≡ home-of s
   unfolding decode first-requests header-of
   cut-home = ap (λ (c : Contents). c .header .home) decoded
-
-  pub cut-server-count : server-count (cut k s) ≡ server-count s
-  unfolding decode first-requests header-of
-  cut-server-count = ap (λ (c : Contents). c .header .«server_count») decoded
 
   pub cut-prices : prices-in (cut k s) ≡ prices-in s
   unfolding decode first-requests header-of prices-in

@@ -9,7 +9,7 @@ use Rattle.base.specs.Sets.{lowest}
 use Rattle.prices.specs.declared.Prices.{Prices}
 use Rattle.model.specs.Sums.{sum}
 use Rattle.model.specs.Requests.{Requests, previous}
-use Rattle.model.specs.Schedule.{Row, hold, move, Move, transfer}
+use Rattle.model.specs.Schedule.{Row, hold, move, transfer}
 
 -- K: kept since the previous request at that server. S: sent there by a transfer.
 pub data Mark : Type 0 where

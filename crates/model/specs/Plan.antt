@@ -1,5 +1,4 @@
 -- The plan: of all legal markings with the least cost, at the latest request where two differ, the K (01's 'The plan'). Assumes nothing.
-use mathlib.Core.Bool.{Bool, true, false}
 use mathlib.Core.List.{List, [], _∷_, _++_, map}
 use Prim.Native.Nat.{ℕ, zero, suc}
 use lib.Dec.{ltb, eqb}

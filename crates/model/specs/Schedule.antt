@@ -1,6 +1,6 @@
 -- Schedules, as 01's 'Schedules' words them: rows, where a copy stands, feasible, cost. Assumes nothing.
-use mathlib.Core.List.{List, [], _∷_, List·Memᴰ}
-use Prim.Native.Nat.{ℕ, zero, suc, _+_, _-_, _*_, _≤_, _<_}
+use mathlib.Core.List.{List, List·Memᴰ}
+use Prim.Native.Nat.{ℕ, _+_, _-_, _*_, _≤_, _<_}
 use Rattle.prices.specs.declared.Prices.{Prices}
 use Rattle.model.specs.Sums.{total}
 use Rattle.model.specs.Requests.{Requests}

@@ -4,7 +4,7 @@ use mathlib.Core.Logic.{_⊎_, inl, inr}
 use mathlib.Core.Path.{_≡_, refl}
 use native.Mathlib.Omega.{arith}
 use Prim.Native.Nat.{ℕ, zero, suc, _≤_, _<_}
-use Rattle.base.specs.Choice.{pick, both, le-or-lt, true-or-false, not-both}
+use Rattle.base.specs.Choice.{pick, le-or-lt, true-or-false, not-both}
 use Rattle.model.specs.Sums.{sum}
 use Rattle.model.specs.SumLaws.{sum-zero}
 use Rattle.model.specs.Marking.{any}

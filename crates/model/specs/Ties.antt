@@ -11,8 +11,7 @@ use Rattle.model.specs.Sums.{sum}
 use Rattle.model.specs.Requests.{Requests, previous}
 use Rattle.model.specs.Marking.{Mark, K, S, legal, cost}
 use Rattle.model.specs.Valid.{Valid, kept-from}
-use Rattle.model.specs.Table.{table, send-price, best}
-use Rattle.model.specs.TableLaws.{span}
+use Rattle.model.specs.Table.{table, best}
 use Rattle.model.specs.BestLaws.{legal-K, with-S, with-K}
 use Rattle.model.specs.PartCost.{part, part-cost, part-S, part-K, part-same, best-part, best-cost}
 

@@ -4,7 +4,7 @@ use mathlib.Core.Logic.{_⊎_, inl, inr, _≢_}
 use mathlib.Core.Option.{Option, none, some}
 use mathlib.Core.Path.{_≡_, refl, sym, ap, _∙_}
 use native.Mathlib.Omega.{arith}
-use Prim.Native.Nat.{ℕ, suc, _+_, _-_, _≤_, _<_}
+use Prim.Native.Nat.{ℕ, suc, _+_, _≤_, _<_}
 use borrow.Author.Tests.{le-leb, lt-leb, eq-eqb, ne-eqb}
 use Rattle.base.specs.Choice.{pick, le-or-lt, same-or-not}
 use Rattle.base.specs.Lists.{build-at}
@@ -15,7 +15,6 @@ use Rattle.online.specs.ServerLaws.{across-same, has-set}
 use Rattle.online.specs.Rules.{class-prices, window-of, copy-at, use-at, lasts, kept, uses, stands, next-use, seconds, accept}
 use Rattle.online.specs.History.{last-use, mark, held, transfers}
 use Rattle.online.specs.HistoryLaws.{Turn, target, source, other, turn, Marked, again, back, sent, marked, transfers-S, transfers-K}
-use Rattle.online.specs.Potential.{left, left-other}
 use Rattle.online.specs.Seconds.{left-of, left-some, spent, spent-last, spent-other, held-step}
 
 -- server y has bit h and last use w in a state after request i: no copy, and its use, if it had one, has expired; or a copy and that use
@@ -28,11 +27,6 @@ left-far : (W : ℕ) (o : Option ℕ) (τ : ℕ) → ((u : ℕ) → o ≡ some u
 unfolding left-of
 left-far W none τ f = refl
 left-far W (some u) τ f = omega (arith, f u refl)
-
--- what another server than the last still has to hold, read from the state
-pub left-seen : (W : ℕ) (q : Requests) (h : Bool) (w i y : ℕ) → y ≢ q .server i → Seen W q h w i y → left W q i y ≡ pick h (w + W - q .time i) 0
-left-seen W q h w i y e (gone a b far) = rw a (left-other W q i y e ∙ left-far W (last-use W q i y) (q .time i) far)
-left-seen W q h w i y e (here a b c d) = rw a (left-other W q i y e ∙ left-some W (last-use W q i y) w (q .time i) b)
 
 module _ (W : ℕ) (q : Requests) (c : Cache) (i : ℕ) (w : window-of c ≡ W) (l : c .last ≡ q .server i) (s : c .second ≡ q .time i)
     (up : q .time i < q .time (suc i)) where

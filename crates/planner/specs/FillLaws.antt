@@ -1,14 +1,14 @@
 -- Two lists filled from their fronts with C and D: what stands there after each request.
 use mathlib.Core.List.{List, [], _∷_, _++_}
-use mathlib.Core.Path.{_≡_, refl, sym, ap, ap₂, _∙_}
+use mathlib.Core.Path.{_≡_, refl, sym}
 use native.Mathlib.Omega.{arith}
-use Prim.Native.Nat.{ℕ, zero, suc, _≤_, _<_}
+use Prim.Native.Nat.{ℕ, suc, _≤_, _<_}
 use lib.ListN.{getD, length, drop, set, List·getD-append}
 use lib.Seq.{drop-cons, set-at, append-snoc}
 use Rattle.prices.specs.declared.Prices.{Prices}
 use Rattle.model.specs.Requests.{Requests}
 use Rattle.model.specs.TableRows.{next-D, next-C, Tabled, next-D-same, tabled-same}
-use Rattle.model.specs.TableLists.{Lists, at, lists, lists-length, lists-tabled}
+use Rattle.model.specs.TableLists.{at, lists, lists-length, lists-tabled}
 
 -- one more element after those at the front
 pub set-next : (xs o : List ℕ) (k v : ℕ) → length xs ≡ k → k < length o → set (xs ++ drop k o) k v ≡ (xs ++ (v ∷ [])) ++ drop (suc k) o

@@ -3,14 +3,14 @@ use mathlib.Core.List.{List}
 use mathlib.Core.Path.{_≡_}
 use native.Mathlib.Nat.{mul-le-mul}
 use native.Mathlib.Omega.{arith}
-use Prim.Native.Nat.{ℕ, suc, _*_, _-_, _^_, _≤_, _<_}
+use Prim.Native.Nat.{ℕ, suc, _-_, _^_, _≤_, _<_}
 use Rattle.prices.specs.declared.Prices.{Prices}
 use Rattle.model.specs.Requests.{Requests, previous, Rising}
 use Rattle.model.specs.Table.{best}
-use Rattle.model.specs.TableLaws.{span, held}
+use Rattle.model.specs.TableLaws.{span}
 use Rattle.model.specs.TableLists.{at}
 use Rattle.model.specs.TableRows.{Tabled, row, row-is}
-use Rattle.model.specs.Bounds.{Bounded, best-bounded, best-most, owns-most, least-own}
+use Rattle.model.specs.Bounds.{best-bounded, best-most, owns-most}
 use Rattle.planner.specs.Asked.{asks}
 use Rattle.planner.specs.Terms.{index, terms-of, own-cost}
 

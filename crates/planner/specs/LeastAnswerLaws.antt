@@ -1,6 +1,6 @@
 -- The least costs that are written for a log are those that it has.
 use mathlib.Core.List.{List, [], _∷_, _++_}
-use mathlib.Core.Path.{_≡_, refl, sym, ap, ap₂, _∙_}
+use mathlib.Core.Path.{_≡_, refl, sym, ap, _∙_}
 use native.Mathlib.Omega.{arith}
 use Prim.Native.Nat.{ℕ, suc, _≤_, _<_}
 use lib.ListN.{length, drop}
@@ -20,7 +20,7 @@ use Rattle.prices.specs.declared.Prices.{Prices}
 use Rattle.model.specs.Requests.{Requests}
 use Rattle.model.specs.Plan.{plan-cost}
 use Rattle.model.specs.PlanLaws.{plan-best}
-use Rattle.model.specs.TableLists.{at, lists, lists-length, lists-costs}
+use Rattle.model.specs.TableLists.{lists, lists-length, lists-costs}
 use Rattle.model.specs.LogRequests.{requests-in, prices-in}
 use Rattle.planner.specs.declared.LeastCosts.{LeastCosts}
 use Rattle.planner.specs.declared.requests.Setup.{Setup}

@@ -1,22 +1,18 @@
 -- The list of the most recent request at each server, and the list of previous requests, as they are filled.
-use mathlib.Core.Bool.{Bool, true, false}
 use mathlib.Core.List.{List, _++_}
 use mathlib.Core.Logic.{_⊎_, inl, inr, _≢_}
 use mathlib.Core.Path.{_≡_, refl, sym, ap, _∙_}
 use native.Mathlib.Omega.{arith}
-use Prim.Native.Nat.{ℕ, zero, suc, _≤_, _<_}
-use lib.Dec.{eqb}
+use Prim.Native.Nat.{ℕ, suc, _<_}
 use lib.ListN.{getD, length, drop, set, replicate, length-set, length-replicate, getD-replicate}
 use lib.Seq.{ext-getD, getD-set-same, getD-set-other}
-use borrow.Author.Tests.{eq-eqb, ne-eqb}
-use Rattle.base.specs.Choice.{pick, same-or-not}
-use Rattle.base.specs.Lists.{build, build-length, build-at, build-same}
+use Rattle.base.specs.Choice.{same-or-not}
+use Rattle.base.specs.Lists.{build, build-length, build-at}
 use Rattle.base.specs.LentLaws.{fill-next}
 use Rattle.model.specs.Requests.{latest}
 use Rattle.model.specs.RequestLaws.{latest-hit, latest-miss}
 use Rattle.model.specs.TableLists.{at}
 use Rattle.planner.specs.Terms.{index}
-use Rattle.planner.specs.Loading.{links}
 
 -- one value, n times
 pub replicate-build : (n v : ℕ) → replicate n v ≡ build n (λ i. v)

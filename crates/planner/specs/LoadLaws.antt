@@ -1,13 +1,13 @@
 -- A log read into lists of 2,049 elements: the reader's conditions are the log's, and the lists are ready for the table.
 use mathlib.Core.List.{List, [], _∷_, _++_, append-nil}
-use mathlib.Core.Path.{_≡_, refl, sym, ap, ap₂, _∙_}
+use mathlib.Core.Path.{_≡_, refl, ap, ap₂, _∙_}
 use native.Mathlib.Omega.{arith}
-use Prim.Native.Nat.{ℕ, zero, suc, _+_, _-_, _*_, _≤_, _<_}
-use lib.ListN.{getD, length, take, drop, length-drop, drop-of-length-le}
+use Prim.Native.Nat.{ℕ, _-_}
+use lib.ListN.{length, take, drop, length-drop, drop-of-length-le}
 use lib.Seq.{take-all}
 use borrow.Author.Tests.{le-ltb}
 use Rattle.base.specs.Refusals.{first, short}
-use Rattle.base.specs.RefusalLaws.{first-append, first-failed, otherwise}
+use Rattle.base.specs.RefusalLaws.{first-append, otherwise}
 use Rattle.base.specs.declared.Verdict.{Verdict}
 use Rattle.base.specs.declared.Verdict.the-variants.{Passed, Refused}
 use Rattle.base.specs.Lent.{lent}
@@ -15,11 +15,6 @@ use Rattle.log.specs.Fields.{request-count}
 use Rattle.log.specs.Conditions.{log-conditions, verdict-of, Accepted}
 use Rattle.log.specs.Answers.{read-verdict}
 use Rattle.log.specs.AcceptedLaws.{accepted-sound}
-
--- room that is long enough refuses nothing
-pub room-enough : (n a : ℕ) → n ≤ a → first (short n a ∷ []) ≡ Passed
-unfolding first
-room-enough n a h = rw (le-ltb a n h)
 
 -- all of a list but its first element, lent and given back
 abbrev pub behind-first : List ℕ → List ℕ

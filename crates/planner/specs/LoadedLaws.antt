@@ -4,22 +4,22 @@ use mathlib.Core.Logic.{_⊎_, inl, inr}
 use mathlib.Core.Path.{_≡_, refl, sym, ap, ap₂, _∙_, fun-ext}
 use native.Mathlib.Omega.{arith}
 use Prim.Native.Nat.{ℕ, zero, suc, _+_, _-_, _≤_, _<_}
-use lib.ListN.{getD, length, take, drop, set, replicate, length-replicate, getD-replicate, List·getD-append, List·getD-eq-default, take-append-drop}
+use lib.ListN.{length, take, drop, set, replicate, length-replicate, getD-replicate, List·getD-append, List·getD-eq-default, take-append-drop}
 use lib.Seq.{getD-append-add}
 use Rattle.base.specs.Choice.{le-or-lt}
 use Rattle.base.specs.Lent.{lent}
-use Rattle.base.specs.Lists.{build, build-length, build-at}
+use Rattle.base.specs.Lists.{build, build-at}
 use Rattle.base.specs.declared.Verdict.{Verdict}
 use Rattle.base.specs.declared.Verdict.the-variants.{Passed, Refused}
-use Rattle.prices.specs.PriceLaws.{In-range, class-in-range}
-use Rattle.log.specs.Fields.{class-of, home-of, server-count, request-count, seconds-of, servers-of, header-of}
+use Rattle.prices.specs.PriceLaws.{class-in-range}
+use Rattle.log.specs.Fields.{class-of, request-count, servers-of, header-of}
 use Rattle.log.specs.Conditions.{verdict-of, Accepted}
 use Rattle.log.specs.Answers.{decoded}
-use Rattle.log.specs.AcceptedLaws.{Sound, Setup, In-order, accepted-sound, seconds-length, servers-length}
+use Rattle.log.specs.AcceptedLaws.{Sound, accepted-sound, servers-length}
 use Rattle.log.specs.declared.Decoded.{Decoded}
 use Rattle.log.specs.declared.ReadOutcome.the-variants as read
 use Rattle.base.specs.declared.Refusal.{Refusal}
-use Rattle.model.specs.Requests.{Requests, requests, latest, previous, Rising}
+use Rattle.model.specs.Requests.{Requests, requests, latest, previous}
 use Rattle.model.specs.TableLists.{at}
 use Rattle.model.specs.LogRequests.{requests-in, prices-in}
 use Rattle.model.specs.LogRequestLaws.{log-rising}

@@ -1,21 +1,19 @@
 -- The terms of a request as they are read from lists that are ready: k is the code's index i.
-use mathlib.Core.Bool.{Bool, not}
+use mathlib.Core.Bool.{not}
 use mathlib.Core.List.{List}
-use mathlib.Core.Option.{Option, none, some}
-use mathlib.Core.Path.{_≡_, refl, sym, ap, _∙_}
+use mathlib.Core.Path.{_≡_, ap, _∙_}
 use native.Mathlib.Numerals.{add-one}
 use native.Mathlib.Omega.{arith}
-use Prim.Native.Nat.{ℕ, suc, _+_, _-_, _*_, _≤_, _<_}
+use Prim.Native.Nat.{ℕ, suc, _+_, _-_, _*_, _≤_}
 use lib.Dec.{eqb}
 use Rattle.prices.specs.declared.Prices.{Prices}
-use Rattle.model.specs.Requests.{previous}
 use Rattle.model.specs.RequestLaws.{rises-le}
-use Rattle.model.specs.Marking.{S, legal, gap}
+use Rattle.model.specs.Marking.{legal, gap}
 use Rattle.model.specs.TableLists.{at}
 use Rattle.planner.specs.declared.table.Terms.{Terms}
 use Rattle.planner.specs.Asked.{asks}
 use Rattle.planner.specs.Terms.{index, span-from, terms-of}
-use Rattle.planner.specs.Fits.{Fits, Ready}
+use Rattle.planner.specs.Fits.{Ready}
 use Rattle.planner.specs.TermLaws.{Linked, alone, after, linked-view}
 
 module _ (p : Prices) (seconds servers links : List ℕ) (i k : ℕ) (e : k ≡ i) (r : Ready p seconds servers links (suc i)) where

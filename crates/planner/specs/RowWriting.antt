@@ -34,12 +34,6 @@ put-rows-append k (x ∷ xs) ys o =
     put-rows-append (suc k) xs ys (splice (4 * k) (numbers x) o)
     ∙ ap (λ (j : ℕ). put-rows j ys (put-rows (suc k) xs (splice (4 * k) (numbers x) o))) (let e : suc k + length xs ≡ k + suc (length xs) = omega arith in e)
 
--- one more row
-pub put-rows-more : (k : ℕ) (xs : List Row) (r : Row) (o : List ℕ)
-    → put-rows k (xs ++ (r ∷ [])) o ≡ splice (4 * (k + length xs)) (numbers r) (put-rows k xs o)
-unfolding put-rows
-put-rows-more k xs r o = put-rows-append k xs (r ∷ []) o
-
 -- where all rows fit, their numbers stand from row k on
 put-rows-fit : (rows : List Row) (k : ℕ) (o : List ℕ) → 4 * (k + length rows) ≤ length o
     → put-rows k rows o ≡ take (4 * k) o ++ (flat rows ++ drop (4 * (k + length rows)) o)

@@ -1,17 +1,16 @@
 -- What a loaded log tells: its verdict, and lists that are ready for the table.
 use mathlib.Core.List.{List}
-use mathlib.Core.Path.{_≡_, refl, sym, ap, ap₂, _∙_}
+use mathlib.Core.Path.{_≡_, refl, ap, ap₂, _∙_}
 use native.Mathlib.Omega.{arith}
-use Prim.Native.Nat.{ℕ, _≤_}
+use Prim.Native.Nat.{ℕ}
 use Rattle.base.specs.Lent.{lent}
 use Rattle.base.specs.declared.Refusal.{Refusal}
 use Rattle.base.specs.declared.Verdict.{Verdict}
 use Rattle.base.specs.declared.Verdict.the-variants.{Passed, Refused}
 use Rattle.log.specs.Fields.{server-count, request-count}
 use Rattle.log.specs.Conditions.{verdict-of, Accepted}
-use Rattle.log.specs.AcceptedLaws.{accepted-sound}
-use Rattle.model.specs.Requests.{Requests, Within}
-use Rattle.model.specs.LogRequests.{requests-in, prices-in}
+use Rattle.model.specs.Requests.{Within}
+use Rattle.model.specs.LogRequests.{requests-in}
 use Rattle.model.specs.LogRequestLaws.{log-within}
 use Rattle.planner.specs.declared.requests.Setup.{Setup}
 use Rattle.planner.specs.declared.requests.Loaded.{Loaded}

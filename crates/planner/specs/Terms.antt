@@ -1,7 +1,7 @@
 -- What a request may be and what that adds to a cost, as the code holds it, and the table's steps and the walk's turns over that. Assumes nothing.
-use mathlib.Core.Bool.{Bool, true, false, not}
+use mathlib.Core.Bool.{Bool, false, not}
 use mathlib.Core.Option.{Option, none, some}
-use Prim.Native.Nat.{ℕ, suc, _+_, _-_, _*_, min}
+use Prim.Native.Nat.{ℕ, suc, _+_, _*_, min}
 use lib.Dec.{leb, ltb, eqb}
 use Rattle.base.specs.Choice.{pick, either}
 use Rattle.prices.specs.declared.Prices.{Prices}

@@ -1,8 +1,8 @@
 // The rows of a plan, from its marks and the words of the holders over its gaps.
 ghost use mathlib.Core.Path.{_≡_};
 ghost use mathlib.Core.List.{[], _∷_};
-ghost use Prim.Native.Nat.{suc, _+_, _-_, _*_, _<_, _≤_};
-ghost use lib.ListN.{length, getD};
+ghost use Prim.Native.Nat.{_+_, _-_, _*_, _<_, _≤_};
+ghost use lib.ListN.{length};
 ghost use Rattle.base.specs.Lists.{splice};
 ghost use Rattle.base.specs.Sets.{has, lowest};
 ghost use Rattle.model.specs.Marking.{begins-run, run-end, hold-rows, transfers};

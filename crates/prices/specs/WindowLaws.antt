@@ -1,6 +1,6 @@
 -- The window between its two bounds: holding that long costs at most a transfer, and one second longer costs more. Assumes nothing.
 use Prim.Native.Nat.{_+_, _*_, _≤_, _<_}
-use native.Mathlib.Nat.{div-le-self, div-mul-le-self, lt-mul-div-succ, mul-comm}
+use native.Mathlib.Nat.{div-mul-le-self, lt-mul-div-succ, mul-comm}
 use Rattle.prices.specs.declared.Prices.{Prices}
 use Rattle.prices.specs.Prices.{window}
 
@@ -13,8 +13,3 @@ window-low p = rw mul-comm (div-mul-le-self (p .transfer) (p .hold))
 pub window-high : (p : Prices) → 1 ≤ p .hold → p .transfer < p .hold * (window p + 1)
 unfolding window
 window-high p h = lt-mul-div-succ (p .transfer) h
-
--- the window is at most the transfer price
-pub window-le : (p : Prices) → window p ≤ p .transfer
-unfolding window
-window-le p = div-le-self (p .transfer) (p .hold)

@@ -1,14 +1,14 @@
 -- No scan of an accepted log's requests is refused, nor would a close be after any of them.
 use mathlib.Core.Bool.{Bool, true, false}
 use mathlib.Core.List.{List, [], _∷_, _++_}
-use mathlib.Core.Path.{_≡_, refl, sym, ap, _∙_}
-use Prim.Native.Nat.{ℕ, zero, suc, _+_, _≤_, _<_}
+use mathlib.Core.Path.{_≡_, refl, ap, _∙_}
+use Prim.Native.Nat.{ℕ, zero, suc, _≤_, _<_}
 use native.Mathlib.Omega.{arith}
-use lib.ListN.{getD, length}
+use lib.ListN.{getD}
 use borrow.Author.Tests.{le-ltb, lt-leb, ne-eqb}
 use Rattle.base.specs.Choice.{pick}
 use Rattle.base.specs.Refusals.{first}
-use Rattle.base.specs.Lists.{build, build-same}
+use Rattle.base.specs.Lists.{build}
 use Rattle.base.specs.declared.Verdict.{Verdict}
 use Rattle.base.specs.declared.Verdict.the-variants.{Passed}
 use Rattle.log.specs.Fields.{class-of, server-count, home-of, request-count, seconds-of, servers-of}
@@ -19,7 +19,7 @@ use Rattle.model.specs.LogRequests.{requests-in}
 use Rattle.online.specs.declared.Cache.{Cache}
 use Rattle.online.specs.declared.ScanOutcome.the-variants as scan′
 use Rattle.online.specs.Rules.{fresh, kept, accept, running}
-use Rattle.online.specs.Conditions.{broken, scan-conditions, close-conditions}
+use Rattle.online.specs.Conditions.{scan-conditions, close-conditions}
 use Rattle.online.specs.Answers.{start-verdict, scan-verdict, close-verdict, started, started-by, mark-outcome, scanned, scanned-by, closed-answer, closed-by}
 use Rattle.online.specs.Calls.{Call, scan, after, run, taken}
 use Rattle.online.specs.CallLaws.{after-scan, taken-scan}

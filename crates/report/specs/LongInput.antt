@@ -1,12 +1,12 @@
 -- An input of which no more bytes are read than the limit is answered as the whole would be.
-use mathlib.Core.Bool.{true, false, not}
+use mathlib.Core.Bool.{not}
 use mathlib.Core.List.{List, [], _∷_, _++_}
 use mathlib.Core.Logic.{_⊎_, inl, inr}
-use mathlib.Core.Path.{_≡_, refl, sym, ap, _∙_}
+use mathlib.Core.Path.{_≡_, refl, ap, _∙_}
 use Prim.Native.Nat.{ℕ, _+_, _≤_, _<_}
 use native.Mathlib.Omega.{arith}
 use lib.Dec.{ltb, eqb}
-use lib.ListN.{getD, length, take}
+use lib.ListN.{length, take}
 use lib.Seq.{getD-take, length-take-le, take-all}
 use borrow.Author.Tests.{le-ltb, ltb-false, eqb-true, not-false, ne-eqb}
 use Rattle.base.specs.Choice.{either, le-or-lt}

@@ -1,10 +1,9 @@
 -- The sheet of an accepted log: none of the calls that it is made of is refused, and zeros after their answers do not show.
-use mathlib.Core.Bool.{false}
 use mathlib.Core.List.{List, [], _∷_, _++_}
-use mathlib.Core.Path.{_≡_, refl, sym, ap, _∙_}
-use Prim.Native.Nat.{ℕ, zero, suc, _+_, _*_, _≤_, _<_}
+use mathlib.Core.Path.{_≡_, ap, _∙_}
+use Prim.Native.Nat.{ℕ, suc, _*_, _≤_}
 use native.Mathlib.Omega.{arith}
-use lib.ListN.{getD, length}
+use lib.ListN.{length}
 use borrow.Author.Tests.{le-ltb}
 use Rattle.base.specs.Lists.{build, build-same}
 use Rattle.base.specs.Refusals.{first, short}

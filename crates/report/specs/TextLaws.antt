@@ -1,7 +1,7 @@
 -- The lines as they are written, part by part, and how long they are.
-use mathlib.Core.List.{List, [], _∷_, _++_}
-use mathlib.Core.Logic.{_⊎_, inl, inr}
-use mathlib.Core.Path.{_≡_, refl, sym, ap}
+use mathlib.Core.List.{_++_}
+use mathlib.Core.Logic.{inl, inr}
+use mathlib.Core.Path.{_≡_, sym, ap}
 use Prim.Native.Nat.{ℕ, suc, _*_, _^_, _≤_, _<_}
 use native.Mathlib.Omega.{arith}
 use lib.ListN.{length, length-append}
@@ -11,7 +11,7 @@ use Rattle.base.specs.declared.Refusal.{Refusal}
 use Rattle.report.specs.declared.Entry.{Entry}
 use Rattle.report.specs.Decimal.{decimal}
 use Rattle.report.specs.DecimalLaws.{decimal-length}
-use Rattle.report.specs.Page.{Page, add-byte, added}
+use Rattle.report.specs.Page.{Page, added}
 use Rattle.report.specs.PageLaws.{added-append}
 use Rattle.report.specs.Text.{ascii, line, line-end, list-word, refusal-text, entry-line, entry-lines, heading, last-line, sheet-text}
 

@@ -3,7 +3,6 @@ use borrow.Author.Needs.{needs}
 use mathlib.Core.Path.{_≡_, refl, ap, _∙_}
 use native.Mathlib.Omega.{arith}
 use lib.ListN.{length}
-use Rattle.base.specs.declared.Verdict.{Verdict}
 use Rattle.base.specs.Lent.{lent}
 use Rattle.log.specs.Fields.{home-of, seconds-of, servers-of, header-of}
 use Rattle.log.specs.Conditions.{verdict-of, Accepted}

@@ -1,7 +1,7 @@
 -- `planner::rows::put_transfer` meets its contract: no row, or the transfer's. Assumes nothing.
 use borrow.Author.Needs.{needs}
 use mathlib.Core.Path.{sym, _∙_}
-use Prim.Native.Nat.{suc, _-_}
+use Prim.Native.Nat.{suc}
 use native.Mathlib.Numerals.{add-one}
 use Rattle.model.specs.Schedule.{move, transfer}
 use Rattle.model.specs.RowForm.{numbers}
