@@ -1,13 +1,13 @@
 -- The checker answers a cost if and only if the log is accepted, its rows are accepted for it, and that is their cost.
 use mathlib.Core.List.{List}
 use mathlib.Core.Logic.{_↔_}
-use mathlib.Core.Path.{_≡_, refl, sym, ap, _∙_}
+use mathlib.Core.Path.{_≡_, refl, sym, _∙_}
 use native.Mathlib.Omega.{arith}
 use Prim.Native.Nat.{ℕ}
 use Rattle.base.specs.declared.Verdict.{Verdict}
 use Rattle.base.specs.declared.Verdict.the-variants.{Passed, Refused}
 use Rattle.base.specs.Refusals.{first}
-use Rattle.base.specs.RefusalLaws.{otherwise, otherwise-passed}
+use Rattle.base.specs.RefusalLaws.{otherwise-passed}
 use Rattle.log.specs.Fields.{server-count, request-count}
 use Rattle.log.specs.Conditions.{verdict-of}
 use Rattle.log.specs.Conditions as logs

@@ -1,22 +1,21 @@
 -- The answer by the log's verdict and the schedule's, and the bounds of a cost that is answered.
 use mathlib.Core.List.{List}
-use mathlib.Core.Path.{_≡_, refl, sym, ap, _∙_}
+use mathlib.Core.Path.{_≡_, sym, _∙_}
 use native.Mathlib.Nat.{mul-le-mul}
 use native.Mathlib.Omega.{arith}
-use Prim.Native.Nat.{ℕ, zero, suc, _+_, _*_, _^_, _≤_, _<_}
+use Prim.Native.Nat.{ℕ, zero, suc, _^_, _≤_, _<_}
 use Rattle.base.specs.declared.Refusal.{Refusal}
 use Rattle.base.specs.declared.Verdict.{Verdict}
 use Rattle.base.specs.declared.Verdict.the-variants.{Passed, Refused}
-use Rattle.base.specs.Refusals.{Condition, first}
+use Rattle.base.specs.Refusals.{first}
 use Rattle.base.specs.RefusalLaws.{first-append, otherwise}
-use Rattle.prices.specs.declared.Prices.{Prices}
 use Rattle.prices.specs.Prices.{prices-of}
 use Rattle.prices.specs.PriceLaws.{class-in-range}
 use Rattle.log.specs.Fields.{class-of, server-count, request-count}
 use Rattle.log.specs.Conditions.{log-conditions, verdict-of, Accepted}
 use Rattle.log.specs.AcceptedLaws.{accepted-sound}
 use Rattle.model.specs.Sums.{total}
-use Rattle.model.specs.Requests.{Requests, requests}
+use Rattle.model.specs.Requests.{requests}
 use Rattle.model.specs.LogRequests.{requests-in, prices-in}
 use Rattle.model.specs.Schedule.{length-of, is-transfer}
 use Rattle.model.specs.RowForm.{rows-of}

@@ -1,22 +1,19 @@
--- The places of well-formed rows rise, so halving finds the first row at a place or later.
-use mathlib.Core.Bool.{Bool, true, false, not}
+-- Well-formed rows are in order: their places rise.
+use mathlib.Core.Bool.{true}
 use mathlib.Core.List.{List}
 use mathlib.Core.Logic.{_⊎_, inl, inr}
-use mathlib.Core.Path.{_≡_, refl, sym, ap, _∙_}
-use native.Mathlib.Nat.{sub-zero}
+use mathlib.Core.Path.{_≡_, refl}
 use native.Mathlib.Omega.{arith}
-use Prim.Native.Nat.{ℕ, zero, suc, _+_, _-_, _*_, _≤_, _<_}
-use lib.Dec.{leb, ltb, eqb}
-use borrow.Author.Tests.{ltb-true, leb-true, leb-false, eqb-true, le-leb, lt-leb}
-use Rattle.base.specs.Choice.{both, either, le-or-lt, same-or-not, not-both}
-use Rattle.base.specs.LowestLaws.{Lowest}
+use Prim.Native.Nat.{ℕ, zero, suc, _+_, _*_, _≤_, _<_}
+use lib.Dec.{ltb, eqb}
+use borrow.Author.Tests.{ltb-true, eqb-true}
+use Rattle.base.specs.Choice.{both, either, same-or-not, not-both}
 use Rattle.base.specs.ChoiceLaws.{both-true, either-true}
-use Rattle.model.specs.Schedule.{Row, hold, move, Move, transfer}
+use Rattle.model.specs.Schedule.{Row, hold, move, transfer}
 use Rattle.model.specs.RowForm.{row-at, fits, earlier, follows}
 use Rattle.model.specs.RowLaws.{fits-hold, fits-move}
 use Rattle.model.specs.Checking.{row-count}
-use Rattle.checker.specs.Search.{hold-key, second-key, key, halve, from-on, position}
-use Rattle.checker.specs.SearchLaws.{halve-lowest}
+use Rattle.checker.specs.Search.{hold-key, second-key, key, In-order}
 
 -- rows that passed 15 and 16, at most 64 servers, and seconds below 2 ^ 22
 pub record Shaped (count last : ℕ) (ns : List ℕ) : Type 0 where
@@ -73,34 +70,6 @@ module _ (count last : ℕ) (ns : List ℕ) (s : Shaped count last ns) where
       go (inr d) r = omega (arith, next, r (omega arith) (omega arith), key-end count last (s .few) (s .early) (row-at ns j) (s .fit-at j (omega arith)))
 
   -- so a row is at a higher place than every one before it
-  pub keys-up : (i j : ℕ) → i < j → j < row-count ns → key (row-at ns i) < key (row-at ns j)
+  pub keys-up : In-order ns
+  unfolding In-order
   keys-up i j l h = omega (arith, keys-rise i j l h, key-end count last (s .few) (s .early) (row-at ns i) (s .fit-at i (omega arith)))
-
-  keys-stay : (i j : ℕ) → i ≤ j → j < row-count ns → key (row-at ns i) ≤ key (row-at ns j)
-  keys-stay i j l h = go (same-or-not i j)
-    where
-      go : (i ≡ j) ⊎ (i ≡ j → ⊥) → key (row-at ns i) ≤ key (row-at ns j)
-      go (inl e) = rw e (omega arith)
-      go (inr d) = omega (arith, keys-up i j (omega arith) h)
-
-  -- halving finds the first row at a place or later
-  position-lowest : (k : ℕ) → Lowest (row-count ns) (from-on ns k) (position ns k)
-  unfolding position from-on
-  position-lowest k =
-      halve-lowest (from-on ns k) (row-count ns)
-      (λ i j l h e. le-leb k (key (row-at ns j)) (omega (arith, leb-true k (key (row-at ns i)) e, keys-stay i j l h)))
-      (row-count ns) 0 (row-count ns) (omega arith) (omega arith) (omega arith) (λ j l. absurd (omega arith)) (λ l. absurd (omega arith))
-
-  pub position-within : (k : ℕ) → position ns k ≤ row-count ns
-  position-within k = position-lowest k .within
-
-  -- the rows before it are at lower places, the rows from it on are not
-  pub before-position : (k i : ℕ) → i < position ns k → key (row-at ns i) < k
-  unfolding from-on
-  before-position k i l = leb-false k (key (row-at ns i)) (position-lowest k .none i l)
-
-  pub from-position : (k i : ℕ) → position ns k ≤ i → i < row-count ns → k ≤ key (row-at ns i)
-  unfolding from-on
-  from-position k i l h =
-      let p = position ns k in
-      omega (arith, leb-true k (key (row-at ns p)) (position-lowest k .met (omega arith)), keys-stay p i l h)

@@ -17,6 +17,7 @@ pub mod QuickFed
 pub mod QuickTransfers
 pub mod EachLaws
 pub mod QuickSteps
+pub mod Skips
 pub mod CopySteps
 pub mod QuickParts
 pub mod QuickTests

@@ -1,14 +1,13 @@
 -- The requests of a log where they stand in its bytes.
-use mathlib.Core.List.{List, _∷_}
+use mathlib.Core.List.{List}
 use mathlib.Core.Logic.{_≢_}
 use mathlib.Core.Path.{_≡_, refl, sym, ap, _∙_}
 use native.Mathlib.Omega.{arith}
 use Prim.Native.Nat.{ℕ, zero, suc, _+_, _*_, _<_}
-use lib.ListN.{getD}
 use Rattle.base.specs.Bytes.{le16, le32}
-use Rattle.log.specs.Fields.{home-of, request-count, seconds-of, servers-of}
+use Rattle.log.specs.Fields.{home-of, request-count}
 use Rattle.log.specs.AcceptedLaws.{second-at, server-at}
-use Rattle.model.specs.Requests.{Requests, requests}
+use Rattle.model.specs.Requests.{requests}
 use Rattle.model.specs.LogRequests.{requests-in}
 
 -- home comes before them

@@ -4,7 +4,7 @@ use mathlib.Core.List.{List, List·Memᴰ}
 use mathlib.Core.Logic.{_⊎_, inl, inr, _≢_}
 use mathlib.Core.Path.{_≡_, refl, ap, _∙_}
 use native.Mathlib.Omega.{arith}
-use Prim.Native.Nat.{ℕ, zero, suc, _+_, _-_, _*_, _≤_, _<_}
+use Prim.Native.Nat.{ℕ, zero, suc, _+_, _*_, _≤_, _<_}
 use lib.Dec.{eqb}
 use borrow.Author.Tests.{eqb-true, lt-ltb, le-ltb}
 use Rattle.base.specs.Choice.{le-or-lt, same-or-not, true-or-false, not-both}
@@ -17,8 +17,9 @@ use Rattle.model.specs.RowForm.{row-at, rows-of}
 use Rattle.model.specs.RowLaws.{fits-hold, fits-move, member-row}
 use Rattle.model.specs.Checking.{row-count}
 use Rattle.checker.specs.Reading.{second-of, target-of}
-use Rattle.checker.specs.Search.{hold-key, second-key, key, position}
-use Rattle.checker.specs.KeyLaws.{Shaped, end-key, keys-rise, keys-up, position-within, before-position, from-position}
+use Rattle.checker.specs.Search.{hold-key, second-key, key, position, In-order}
+use Rattle.checker.specs.KeyLaws.{Shaped, end-key, keys-rise, keys-up}
+use Rattle.checker.specs.SearchLaws.{position-most, before-position, from-position}
 use Rattle.checker.specs.Quick.{covers, first-of, number-of, standing-at, any-below, starts, unfed, lower, starved}
 use Rattle.checker.specs.AnyLaws.{any-is}
 use Rattle.checker.specs.QuickReach.{Covering, covering}
@@ -115,7 +116,7 @@ module _ (count last : ℕ) (ns : List ℕ) (s : Shaped count last ns) (home : �
 
   -- the search for its start finds it
   pub hold-position : (x a b i : ℕ) → i < row-count ns → row-at ns i ≡ hold x a b → position ns (hold-key x a) ≡ i
-  unfolding key hold-key
+  unfolding key hold-key In-order
   hold-position x a b i l e = go (le-or-lt (position ns (hold-key x a)) i) (same-or-not (position ns (hold-key x a)) i)
     where
       here : key (row-at ns i) ≡ 4194304 * x + a
@@ -126,14 +127,14 @@ module _ (count last : ℕ) (ns : List ℕ) (s : Shaped count last ns) (home : �
       go (inl d) (inl z) = z
       go (inl d) (inr z) =
           let p = position ns (hold-key x a) in
-          absurd (omega (arith, here, from-position count last ns s (hold-key x a) p (omega arith) (omega arith), keys-up count last ns s p i (omega arith) l))
-      go (inr d) z = absurd (omega (arith, here, before-position count last ns s (hold-key x a) i d))
+          absurd (omega (arith, here, from-position ns (keys-up count last ns s) (hold-key x a) p (omega arith) (omega arith), keys-up count last ns s p i (omega arith) l))
+      go (inr d) z = absurd (omega (arith, here, before-position ns (hold-key x a) i d))
 
   -- ---- which rows are holds, and which are transfers of a second
 
   pub first-within : (τ : ℕ) → first-of ns τ ≤ row-count ns
   unfolding first-of
-  first-within τ = position-within count last ns s (second-key τ)
+  first-within τ = position-most ns (second-key τ)
 
   -- before the first transfer all rows are holds
   pub hold-row : (i : ℕ) → i < first-of ns 0 → (x : ℕ) × (a : ℕ) × (b : ℕ) × (row-at ns i ≡ hold x a b)
@@ -144,7 +145,7 @@ module _ (count last : ℕ) (ns : List ℕ) (s : Shaped count last ns) (home : �
       go (hold x a b) e = (x, a, b, e)
       go (move (transfer y x τ)) e =
           let k : key (row-at ns i) ≡ 268435456 + 4096 * τ + 64 * y + x = ap key e in
-          absurd (omega (arith, before-position count last ns s (second-key 0) i l))
+          absurd (omega (arith, before-position ns (second-key 0) i l))
 
   -- from it on all are transfers
   pub transfer-row : (i : ℕ) → first-of ns 0 ≤ i → i < row-count ns → (y : ℕ) × (x : ℕ) × (τ : ℕ) × (row-at ns i ≡ move (transfer y x τ))
@@ -155,7 +156,7 @@ module _ (count last : ℕ) (ns : List ℕ) (s : Shaped count last ns) (home : �
       go (hold x a b) e =
           let k : key (row-at ns i) ≡ 4194304 * x + a = ap key e in
           let (p, q, t) = fits-hold count last x a b (rw e at (s .fit-at i h)) in
-          absurd (omega (arith, s .few, s .early, from-position count last ns s (second-key 0) i l h))
+          absurd (omega (arith, s .few, s .early, from-position ns (keys-up count last ns s) (second-key 0) i l h))
       go (move (transfer y x τ)) e = (y, x, τ, e)
 
   -- the rows of a second are transfers of it
@@ -168,13 +169,13 @@ module _ (count last : ℕ) (ns : List ℕ) (s : Shaped count last ns) (home : �
       i = position ns (second-key τ) + j
 
       inside-rows : i < row-count ns
-      inside-rows = omega (arith, position-within count last ns s (second-key (suc τ)))
+      inside-rows = omega (arith, position-most ns (second-key (suc τ)))
 
       low : second-key τ ≤ key (row-at ns i)
-      low = from-position count last ns s (second-key τ) i (omega arith) inside-rows
+      low = from-position ns (keys-up count last ns s) (second-key τ) i (omega arith) inside-rows
 
       high : key (row-at ns i) < second-key (suc τ)
-      high = before-position count last ns s (second-key (suc τ)) i (omega arith)
+      high = before-position ns (second-key (suc τ)) i (omega arith)
 
       go : (position ns (second-key 0) ≤ i) ⊎ (i < position ns (second-key 0))
           → (position ns (second-key 0) ≤ i → i < row-count ns → (y : ℕ) × (x : ℕ) × (σ : ℕ) × (row-at ns i ≡ move (transfer y x σ)))
@@ -185,4 +186,4 @@ module _ (count last : ℕ) (ns : List ℕ) (s : Shaped count last ns) (home : �
           let f = fits-move count last y x σ (rw e at (s .fit-at i inside-rows)) in
           let same : σ ≡ τ = omega (arith, s .few, f .0, f .1, low, high) in
           (y, x, e ∙ ap (λ (z : ℕ). move (transfer y x z)) same, d, inside-rows)
-      go (inr d) r = absurd (omega (arith, low, before-position count last ns s (second-key 0) i d))
+      go (inr d) r = absurd (omega (arith, low, before-position ns (second-key 0) i d))

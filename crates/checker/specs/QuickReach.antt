@@ -16,7 +16,8 @@ use Rattle.model.specs.RowForm.{row-at, rows-of}
 use Rattle.model.specs.RowLaws.{fits-hold}
 use Rattle.model.specs.Checking.{row-count}
 use Rattle.checker.specs.Search.{hold-key, key, position}
-use Rattle.checker.specs.KeyLaws.{Shaped, end-key, keys-rise, position-within, before-position, from-position}
+use Rattle.checker.specs.KeyLaws.{Shaped, end-key, keys-rise, keys-up}
+use Rattle.checker.specs.SearchLaws.{position-most, before-position, from-position}
 use Rattle.checker.specs.Quick.{join, covers, reaches, gather, begun, any-below}
 use Rattle.checker.specs.AnyLaws.{same-test, any-is, any-of}
 use Rattle.checker.specs.QuickSets.{both-none, through-has, gather-has}
@@ -44,7 +45,7 @@ module _ (count last : ℕ) (ns : List ℕ) (s : Shaped count last ns) (τ : ℕ
   found x e =
       let p = position ns (hold-key x τ) in
       let (a, b) = both-true (not (eqb p 0)) (covers τ x (row-at ns (pred p))) e in
-      go p refl (position-within count last ns s (hold-key x τ)) (eqb-false p 0 (not-true (eqb p 0) a)) b
+      go p refl (position-most ns (hold-key x τ)) (eqb-false p 0 (not-true (eqb p 0) a)) b
     where
       go : (p : ℕ) → position ns (hold-key x τ) ≡ p → position ns (hold-key x τ) ≤ row-count ns → (position ns (hold-key x τ) ≡ 0 → ⊥)
           → covers τ x (row-at ns (pred (position ns (hold-key x τ)))) ≡ true → (i : ℕ) × (i < row-count ns) × (covers τ x (row-at ns i) ≡ true)
@@ -60,7 +61,7 @@ module _ (count last : ℕ) (ns : List ℕ) (s : Shaped count last ns) (τ : ℕ
           → both (not (eqb (position ns (hold-key x τ)) 0)) (covers τ x (row-at ns (pred (position ns (hold-key x τ))))) ≡ true
       go h (inl d) p q =
           let k : key (row-at ns i) ≡ 4194304 * x + h .from = ap key (h .is) in
-          absurd (omega (arith, h .began, from-position count last ns s (hold-key x τ) i d l))
+          absurd (omega (arith, h .began, from-position ns (keys-up count last ns s) (hold-key x τ) i d l))
       go h (inr d) zero q = absurd (omega arith)
       go h (inr d) (suc j) q = rw (q, ne-eqb (suc j) 0 (λ z. omega arith)) (by (same-or-not i j))
         where
@@ -71,8 +72,8 @@ module _ (count last : ℕ) (ns : List ℕ) (s : Shaped count last ns) (τ : ℕ
               absurd (omega (
                 arith,
                 h .lasts,
-                keys-rise count last ns s i j (omega arith) (omega (arith, position-within count last ns s (hold-key x τ))),
-                before-position count last ns s (hold-key x τ) j (omega arith),
+                keys-rise count last ns s i j (omega arith) (omega (arith, position-most ns (hold-key x τ))),
+                before-position ns (hold-key x τ) j (omega arith),
               ))
 
   -- only a server below the count is covered

@@ -14,7 +14,8 @@ use Rattle.model.specs.RowForm.{row-at, rows-upto, rows-of, fits}
 use Rattle.model.specs.RowLaws.{fits-move}
 use Rattle.model.specs.Checking.{row-count}
 use Rattle.checker.specs.Search.{second-key, key, position}
-use Rattle.checker.specs.KeyLaws.{Shaped, position-within, before-position, from-position}
+use Rattle.checker.specs.KeyLaws.{Shaped, keys-up}
+use Rattle.checker.specs.SearchLaws.{position-most, before-position, from-position}
 use Rattle.checker.specs.Quick.{join, arrival, along, settle, first-of, number-of, second-pass}
 use Rattle.checker.specs.QuickSets.{through-more}
 
@@ -81,14 +82,14 @@ module _ (count last : ℕ) (ns : List ℕ) (s : Shaped count last ns) (τ w : �
   unfolding key second-key
   earlier-row i l y x σ e d =
       let k : key (row-at ns i) ≡ 268435456 + 4096 * σ + 64 * y + x = ap key e in
-      omega (arith, before-position count last ns s (second-key τ) i l)
+      omega (arith, before-position ns (second-key τ) i l)
 
   later-row : (i : ℕ) → stop ≤ i → i < row-count ns → (y x σ : ℕ) → row-at ns i ≡ move (transfer y x σ) → σ ≢ τ
   unfolding key second-key
   later-row i l h y x σ e d =
       let k : key (row-at ns i) ≡ 268435456 + 4096 * σ + 64 * y + x = ap key e in
       let f = fits-move count last y x σ (rw e at (s .fit-at i h)) in
-      omega (arith, s .few, f .0, f .1, from-position count last ns s (second-key (suc τ)) i l h)
+      omega (arith, s .few, f .0, f .1, from-position ns (keys-up count last ns s) (second-key (suc τ)) i l h)
 
   -- the first after is not before the first
   in-order : start ≤ stop
@@ -97,8 +98,8 @@ module _ (count last : ℕ) (ns : List ℕ) (s : Shaped count last ns) (τ w : �
     | inl l ↦ l
     | inr l ↦ absurd (omega (
       arith,
-      before-position count last ns s (second-key τ) stop l,
-      from-position count last ns s (second-key (suc τ)) stop (omega arith) (omega (arith, position-within count last ns s (second-key τ))),
+      before-position ns (second-key τ) stop l,
+      from-position ns (keys-up count last ns s) (second-key (suc τ)) stop (omega arith) (omega (arith, position-most ns (second-key τ))),
     ))
   ]
 
@@ -117,7 +118,7 @@ module _ (count last : ℕ) (ns : List ℕ) (s : Shaped count last ns) (τ w : �
   pub pass-through : second-pass ns τ w ≡ through (arrive τ) w (rows-of ns)
   unfolding second-pass first-of number-of rows-of row-count
   pass-through =
-      let l = position-within count last ns s (second-key (suc τ)) in
+      let l = position-most ns (second-key (suc τ)) in
       let e : start + (stop - start) ≡ stop = omega (arith, in-order) in
       let d : stop + (row-count ns - stop) ≡ row-count ns = omega arith in
       run (stop - start) (omega arith)

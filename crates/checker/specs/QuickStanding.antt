@@ -17,7 +17,8 @@ use Rattle.model.specs.RowLaws.{fits-move, member-row}
 use Rattle.model.specs.Checking.{row-count}
 use Rattle.checker.specs.Reading.{server-of}
 use Rattle.checker.specs.Search.{second-key, key, position}
-use Rattle.checker.specs.KeyLaws.{Shaped, before-position, from-position}
+use Rattle.checker.specs.KeyLaws.{Shaped, keys-up}
+use Rattle.checker.specs.SearchLaws.{before-position, from-position}
 use Rattle.checker.specs.Quick.{sources, first-of, number-of, before-transfers, second-pass, standing-at}
 use Rattle.checker.specs.QuickSets.{put-has, sources-has}
 use Rattle.checker.specs.QuickReach.{Known, before-agrees}
@@ -69,10 +70,10 @@ module _ (count last : ℕ) (ns : List ℕ) (s : Shaped count last ns) where
       let f = fits-move count last y x τ (rw e at (s .fit-at i l)) in
       let low : position ns (second-key τ) ≤ i = elim (le-or-lt (position ns (second-key τ)) i) [
         | inl d ↦ d
-        | inr d ↦ absurd (omega (arith, before-position count last ns s (second-key τ) i d))
+        | inr d ↦ absurd (omega (arith, before-position ns (second-key τ) i d))
       ] in
       let high : i < position ns (second-key (suc τ)) = elim (le-or-lt (position ns (second-key (suc τ))) i) [
-        | inl d ↦ absurd (omega (arith, s .few, f .0, f .1, from-position count last ns s (second-key (suc τ)) i d l))
+        | inl d ↦ absurd (omega (arith, s .few, f .0, f .1, from-position ns (keys-up count last ns s) (second-key (suc τ)) i d l))
         | inr d ↦ d
       ] in
       (low, omega arith)

@@ -12,7 +12,7 @@ use Rattle.base.specs.declared.Verdict.{Verdict}
 use Rattle.base.specs.declared.Verdict.the-variants.{Passed, Refused}
 use Rattle.base.specs.Choice.{either, true-or-false}
 use Rattle.base.specs.Sets.{has}
-use Rattle.base.specs.Refusals.{Condition, refuse, first, each}
+use Rattle.base.specs.Refusals.{Condition, first, each}
 use Rattle.base.specs.RefusalLaws.{nth, first-append, first-passed, each-passed, otherwise}
 use Rattle.log.specs.Fields.{server-count, home-of, request-count}
 use Rattle.log.specs.Conditions.{Accepted}
@@ -20,14 +20,15 @@ use Rattle.log.specs.AcceptedLaws.{accepted-sound}
 use Rattle.base.specs.ChoiceLaws.{either-false}
 use Rattle.model.specs.Requests.{Requests, requests}
 use Rattle.model.specs.LogRequests.{requests-in}
-use Rattle.model.specs.Schedule.{hold, transfer, held}
+use Rattle.model.specs.Schedule.{hold, held}
 use Rattle.model.specs.Standing.{stands}
 use Rattle.model.specs.RowForm.{row-at, rows-of, fits}
 use Rattle.model.specs.RowLaws.{row-member}
 use Rattle.model.specs.Checking.{row-count, misfits, misplaced, row-conditions, backed, copy-condition, serve-condition, schedule-conditions}
 use Rattle.checker.specs.Reading.{server-of, second-of}
 use Rattle.checker.specs.LogLaws.{home-is, time-read, server-read}
-use Rattle.checker.specs.KeyLaws.{Shaped}
+use Rattle.checker.specs.Search.{In-order}
+use Rattle.checker.specs.KeyLaws.{Shaped, keys-up}
 use Rattle.checker.specs.Quick.{covers, reaches, first-of, standing-at, row-tests, any-below, unbacked, hold-test, transfer-test, copy-tests, stands-at, served, serve-test, schedule-tests}
 use Rattle.checker.specs.AnyLaws.{any-is}
 use Rattle.checker.specs.EachLaws.{each-same, each-until, each-split}
@@ -114,6 +115,10 @@ module _ (log ns : List ℕ) (a : Accepted log) where
       fit i l =
           let ok = fits count (q .time n) (row-at ns i) in
           not-false ok (either-false (eqb n 0) (not ok) (either-false (ltb 1 (getD ns (4 * i) 0)) (either (eqb n 0) (not ok)) (test i l 0) .1) .1)
+
+  -- and in order
+  pub in-order : first (row-part log ns) ≡ Passed → In-order ns
+  in-order e = keys-up count (q .time n) ns (shaped e)
 
   -- then 17 and 18 are the same
   copies-same : Shaped count (q .time n) ns → first (copy-part log ns) ≡ first (each (copy-condition count q ns) (row-count ns))

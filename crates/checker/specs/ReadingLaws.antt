@@ -5,9 +5,8 @@ use mathlib.Core.Path.{_≡_, refl}
 use native.Mathlib.Omega.{arith}
 use Prim.Native.Nat.{ℕ, _+_, _*_, _/_, _<_}
 use lib.Dec.{eqb}
-use lib.ListN.{getD, length, List·getD-eq-default}
+use lib.ListN.{length, List·getD-eq-default}
 use Rattle.model.specs.RowForm.{row-of}
-use Rattle.checker.specs.declared.Quad.{Quad}
 use Rattle.checker.specs.Reading.{quad-at, server-of, target-of}
 
 -- past the end all four numbers are 0

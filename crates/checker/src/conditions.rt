@@ -1,15 +1,17 @@
 // The conditions 14 to 18 on the numbers of a schedule, in 01's order.
 ghost use mathlib.Core.Path.{_≡_};
 ghost use mathlib.Core.Bool.{not};
-ghost use Prim.Native.Nat.{suc, _+_, _*_, _/_, _<_};
+ghost use Prim.Native.Nat.{suc, _<_};
 ghost use lib.Dec.{ltb, eqb};
 ghost use Rattle.base.specs.Choice.{either};
 ghost use Rattle.base.specs.Refusals.{first, each};
+ghost use Rattle.log.specs.Conditions.{Accepted};
 ghost use Rattle.log.specs.Fields.{request-count};
 ghost use Rattle.model.specs.RowForm.{fits};
 ghost use Rattle.model.specs.LogRequests.{requests-in};
 ghost use Rattle.model.specs.Checking.{row-count, misplaced};
 ghost use Rattle.checker.specs.Reading.{as-row};
+ghost use Rattle.checker.specs.Search.{In-order};
 ghost use Rattle.checker.specs.Quick.{stands-at, served, row-tests, serve-test, schedule-tests};
 use crate::Quad;
 use crate::copies::copies_fault;
@@ -102,17 +104,19 @@ fn rows_fault(ns: &[u32], count: u32, n: u16, last: u32) -> Verdict
 }
 
 // Does a copy stand at server x at second t?
-fn stands(ns: &[u32], count: u32, home: u32, t: u32, x: u32) -> bool
+fn stands(ns: &[u32], hints: &mut [usize; 65], count: u32, home: u32, t: u32, x: u32) -> bool
+    requires { ⌜ In-order (now ns) ⌝ }
     ensures { λ r. ⌜ r ≡ stands-at count home (now (ns .entry)) t x ⌝ }
 {
-    if reaches(ns, t, x) {
+    if reaches(ns, hints, t, x) {
         return true;
     }
-    member(standing(ns, count, home, t), x)
+    member(standing(ns, hints, count, home, t), x)
 }
 
 // Does one stand at request i + 1?
-fn served(log: &[u8], ns: &[u32], i: u16) -> bool
+fn served(log: &[u8], ns: &[u32], hints: &mut [usize; 65], i: u16) -> bool
+    requires { ⌜ In-order (now ns) ⌝ }
     ensures { λ r. ⌜ r ≡ served (now (log .entry)) (now (ns .entry)) i ⌝ }
 {
     let k = 6 * size(i);
@@ -120,6 +124,7 @@ fn served(log: &[u8], ns: &[u32], i: u16) -> bool
     let server = at16(log, 44 + k);
     stands(
         ns,
+        hints,
         word8(at(log, 3)),
         word8(at(log, 4)),
         second,
@@ -129,12 +134,14 @@ fn served(log: &[u8], ns: &[u32], i: u16) -> bool
 
 // 18 for each request.
 fn requests_fault(log: &[u8], ns: &[u32]) -> Verdict
+    requires { ⌜ In-order (now ns) ⌝ }
     ensures { λ r. ⌜ r ≡ first (each (serve-test (now (log .entry)) (now (ns .entry))) (request-count (now (log .entry)))) ⌝ }
 {
+    let mut hints = [0usize; 65];
     let n = at16(log, 6);
     let mut i: u16 = 0;
     while i < n {
-        if !served(log, ns, i) {
+        if !served(log, ns, &mut hints, i) {
             return Verdict::Refused(Refusal {
                 number: 18,
                 place: place(size(i)),
@@ -157,7 +164,8 @@ fn last_second(log: &[u8]) -> u32
 }
 
 // What the numbers of a schedule are answered, for a log.
-pub fn schedule_fault(log: &[u8], ns: &[u32]) -> Verdict
+pub(crate) fn schedule_fault(log: &[u8], ns: &[u32]) -> Verdict
+    requires { ⌜ Accepted (now log) ⌝ }
     ensures { λ r. ⌜ r ≡ first (schedule-tests (now (log .entry)) (now (ns .entry))) ⌝ }
 {
     if ns.len() % 4 != 0 {

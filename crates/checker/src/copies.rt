@@ -9,13 +9,14 @@ ghost use Rattle.base.specs.Refusals.{first, each};
 ghost use Rattle.model.specs.RowForm.{row-at};
 ghost use Rattle.model.specs.Checking.{row-count};
 ghost use Rattle.checker.specs.Reading.{as-row, server-of, second-of};
+ghost use Rattle.checker.specs.Search.{In-order};
 ghost use Rattle.checker.specs.Quick.{standing-at, any-below, aims, fed, starts, unfed, lower, starved, unbacked, hold-test, transfer-test, copy-tests};
 use crate::Quad;
+use crate::hints::after_holds;
+use crate::hints::after_second;
+use crate::hints::from_second;
 use crate::rows::row;
 use crate::rows::second;
-use crate::search::after_holds;
-use crate::search::after_second;
-use crate::search::from_second;
 use crate::standing::member;
 use crate::standing::standing;
 use base::Refusal;
@@ -42,8 +43,8 @@ fn place(i: usize) -> u64
 }
 
 // The set at second t, where it may be known.
-fn seen_at(ns: &[u32], count: u32, home: u32, seen: Seen, t: u32) -> Seen
-    requires { ⌜ seen .word ≡ standing-at count home (now ns) (seen .second) ⌝ }
+fn seen_at(ns: &[u32], hints: &mut [usize; 65], count: u32, home: u32, seen: Seen, t: u32) -> Seen
+    requires { ⌜ In-order (now ns) × (seen .word ≡ standing-at count home (now ns) (seen .second)) ⌝ }
     ensures { λ r. ⌜ (r .second ≡ t) × (r .word ≡ standing-at count home (now (ns .entry)) t) ⌝ }
 {
     if seen.second == t {
@@ -51,7 +52,7 @@ fn seen_at(ns: &[u32], count: u32, home: u32, seen: Seen, t: u32) -> Seen
     }
     Seen {
         second: t,
-        word: standing(ns, count, home, t),
+        word: standing(ns, hints, count, home, t),
     }
 }
 
@@ -90,13 +91,16 @@ fn begins(home: u32, t: u32, x: u32) -> bool
 }
 
 // May a copy come to server x at second t?
-fn fed(ns: &[u32], home: u32, t: u32, x: u32) -> bool
+fn fed(ns: &[u32], hints: &mut [usize; 65], home: u32, t: u32, x: u32) -> bool
+    requires { ⌜ In-order (now ns) ⌝ }
     ensures { λ r. ⌜ r ≡ fed home (now (ns .entry)) t x ⌝ }
 {
     if begins(home, t, x) {
         return true;
     }
-    aimed(ns, from_second(ns, t), after_second(ns, t), x)
+    let from = from_second(ns, hints, t);
+    let to = after_second(ns, hints, t);
+    aimed(ns, from, to, x)
 }
 
 // Is the row a hold of server x that begins at second t?
@@ -113,13 +117,14 @@ fn starts(t: u32, x: u32, r: Quad) -> bool
 }
 
 // The hold at server x from second t on, if the set at t has not x; past the last row where there is none.
-fn unfed(ns: &[u32], w: u64, t: u32, x: u32) -> usize
+fn unfed(ns: &[u32], hints: &mut [usize; 65], w: u64, t: u32, x: u32) -> usize
+    requires { ⌜ In-order (now ns) ⌝ }
     ensures { λ r. ⌜ r ≡ unfed (now (ns .entry)) w t x ⌝ }
 {
     if member(w, x) {
         return ns.len() / 4;
     }
-    let p = after_holds(ns, x, t);
+    let p = after_holds(ns, hints, x, t);
     if starts(t, x, row(ns, p)) {
         return p;
     }
@@ -146,22 +151,23 @@ fn unbacked(ns: &[u32], w: u64, y: u32, i: usize) -> usize
 }
 
 // One pass over the transfers from one on: the first hold to which they bring no copy, and the first of them with no copy at its source.
-fn scan(ns: &[u32], count: u32, home: u32, from: usize) -> Faults
+fn scan(ns: &[u32], hints: &mut [usize; 65], count: u32, home: u32, from: usize) -> Faults
+    requires { ⌜ In-order (now ns) ⌝ }
     ensures { λ r. ⌜ (r .hold ≡ starved count home (now (ns .entry)) from (row-count (now (ns .entry)) - from))
         × (r .transfer ≡ unbacked count home (now (ns .entry)) from (row-count (now (ns .entry)) - from)) ⌝ }
 {
     let rows = ns.len() / 4;
     let mut seen = Seen {
         second: 0,
-        word: standing(ns, count, home, 0),
+        word: standing(ns, hints, count, home, 0),
     };
     let mut low = rows;
     let mut late = rows;
     let mut i = from;
     while i < rows {
         let r = row(ns, i);
-        seen = seen_at(ns, count, home, seen, second(r));
-        low = lower(unfed(ns, seen.word, seen.second, r.b), low);
+        seen = seen_at(ns, hints, count, home, seen, second(r));
+        low = lower(unfed(ns, hints, seen.word, seen.second, r.b), low);
         late = lower(unbacked(ns, seen.word, r.a, i), late);
         i += 1;
     }
@@ -172,24 +178,25 @@ fn scan(ns: &[u32], count: u32, home: u32, from: usize) -> Faults
 }
 
 // Hold i is the first such one, or no copy may come to its start.
-fn fails(ns: &[u32], home: u32, low: usize, i: usize) -> bool
+fn fails(ns: &[u32], hints: &mut [usize; 65], home: u32, low: usize, i: usize) -> bool
+    requires { ⌜ In-order (now ns) ⌝ }
     ensures { λ r. ⌜ r ≡ either (eqb i low) (not (fed home (now (ns .entry)) (second-of (row-at (now (ns .entry)) i)) (server-of (row-at (now (ns .entry)) i)))) ⌝ }
 {
     if i == low {
         return true;
     }
     let r = row(ns, i);
-    !fed(ns, home, second(r), r.a)
+    !fed(ns, hints, home, second(r), r.a)
 }
 
 // Each of the first rows: holds.
-fn holds_fault(ns: &[u32], home: u32, low: usize, holds: usize) -> Verdict
-    requires { ⌜ holds ≤ row-count (now ns) ⌝ }
+fn holds_fault(ns: &[u32], hints: &mut [usize; 65], home: u32, low: usize, holds: usize) -> Verdict
+    requires { ⌜ In-order (now ns) × (holds ≤ row-count (now ns)) ⌝ }
     ensures { λ r. ⌜ r ≡ first (each (hold-test home (now (ns .entry)) low) holds) ⌝ }
 {
     let mut i: usize = 0;
     while i < holds {
-        if fails(ns, home, low, i) {
+        if fails(ns, hints, home, low, i) {
             return Verdict::Refused(Refusal {
                 number: 17,
                 place: place(i),
@@ -214,12 +221,14 @@ fn transfer_fault(ns: &[u32], late: usize) -> Verdict
 }
 
 // 17 for each row.
-pub fn copies_fault(ns: &[u32], count: u32, home: u32) -> Verdict
+pub(crate) fn copies_fault(ns: &[u32], count: u32, home: u32) -> Verdict
+    requires { ⌜ In-order (now ns) ⌝ }
     ensures { λ r. ⌜ r ≡ first (copy-tests count home (now (ns .entry))) ⌝ }
 {
-    let holds = from_second(ns, 0);
-    let low = scan(ns, count, home, holds);
-    let v = holds_fault(ns, home, low.hold, holds);
+    let mut hints = [0usize; 65];
+    let holds = from_second(ns, &mut hints, 0);
+    let low = scan(ns, &mut hints, count, home, holds);
+    let v = holds_fault(ns, &mut hints, home, low.hold, holds);
     if let Verdict::Refused(r) = v {
         return Verdict::Refused(r);
     }

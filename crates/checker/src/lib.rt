@@ -2,6 +2,7 @@
 mod answer;
 mod conditions;
 mod copies;
+mod hints;
 mod rows;
 mod search;
 mod standing;

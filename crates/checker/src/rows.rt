@@ -16,8 +16,8 @@ fn number(ns: &[u32], i: usize) -> u32
     0
 }
 
-// Row i, from 0; zeros past the end.
-pub fn row(ns: &[u32], i: usize) -> Quad
+// Row i after the whole ones: the numbers that are left, and zeros.
+fn rest(ns: &[u32], i: usize) -> Quad
     ensures { λ r. ⌜ r ≡ quad-at (now (ns .entry)) i ⌝ }
 {
     if ns.len() / 4 < i {
@@ -35,6 +35,22 @@ pub fn row(ns: &[u32], i: usize) -> Quad
         b: number(ns, k + 2),
         c: number(ns, k + 3),
     }
+}
+
+// Row i, from 0; zeros past the end.
+pub fn row(ns: &[u32], i: usize) -> Quad
+    ensures { λ r. ⌜ r ≡ quad-at (now (ns .entry)) i ⌝ }
+{
+    if i < ns.len() / 4 {
+        let k = 4 * i;
+        return Quad {
+            kind: ns[k],
+            a: ns[k + 1],
+            b: ns[k + 2],
+            c: ns[k + 3],
+        };
+    }
+    rest(ns, i)
 }
 
 // The second where a hold begins or a transfer leaves.

@@ -1,19 +1,19 @@
-// The first row from a place on, by halving.
+// The first row from a place on, in rows in order: from a hint on by doubling steps, then by halving.
 ghost use mathlib.Core.Path.{_≡_};
-ghost use Prim.Native.Nat.{suc, _+_, _*_, _^_, _<_};
-ghost use Rattle.base.specs.Choice.{pick};
+ghost use Prim.Native.Nat.{_-_, _^_, _<_, _≤_};
+ghost use lib.Dec.{ltb};
 ghost use Rattle.checker.specs.Reading.{as-row};
-ghost use Rattle.checker.specs.Search.{key, hold-key, second-key, middle, from-on, position};
+ghost use Rattle.checker.specs.Search.{key, position, In-order};
 use crate::Quad;
 use crate::rows::row;
 
-// The rows that are left: from lo on, below hi.
+// Rows among which one is sought: from lo on, up to hi.
 struct Span {
     lo: usize,
     hi: usize,
 }
 
-fn wide(x: u32) -> u64
+pub fn wide(x: u32) -> u64
     ensures { λ r. ⌜ (r ≡ x) × (r < 2 ^ 32) ⌝ }
 {
     x as u64
@@ -29,53 +29,65 @@ fn key(r: Quad) -> u64
     268435456 + 4096 * wide(r.c) + 64 * wide(r.a) + wide(r.b)
 }
 
-// The half of the rows that the first one at place k or later is in.
-fn half(ns: &[u32], k: u64, s: Span) -> Span
-    requires { ⌜ s .lo < s .hi ⌝ }
-    ensures { λ r. ⌜ (r .lo ≡ pick (from-on (now (ns .entry)) k (middle (s .lo) (s .hi))) (s .lo) (suc (middle (s .lo) (s .hi))))
-        × (r .hi ≡ pick (from-on (now (ns .entry)) k (middle (s .lo) (s .hi))) (middle (s .lo) (s .hi)) (s .hi)) ⌝ }
+// Is row i before the first one at place k or later?
+fn precedes(ns: &[u32], k: u64, i: usize) -> bool
+    requires { ⌜ In-order (now ns) ⌝ }
+    ensures { λ r. ⌜ r ≡ ltb i (position (now (ns .entry)) k) ⌝ }
 {
-    let m = s.lo + (s.hi - s.lo) / 2;
-    if k <= key(row(ns, m)) {
-        return Span { lo: s.lo, hi: m };
+    if ns.len() / 4 <= i {
+        return false;
     }
-    Span {
-        lo: m + 1,
-        hi: s.hi,
-    }
+    key(row(ns, i)) < k
 }
 
-// The first row at place k or later.
-fn position(ns: &[u32], k: u64) -> usize
+// The half of some rows that the first one at place k or later is in.
+fn half(ns: &[u32], k: u64, lo: usize, hi: usize) -> Span
+    requires { ⌜ In-order (now ns) × (lo < hi) × (lo ≤ position (now ns) k) × (position (now ns) k ≤ hi) ⌝ }
+    ensures { λ r. ⌜ (r .lo ≤ position (now (ns .entry)) k) × (position (now (ns .entry)) k ≤ r .hi) × (r .hi - r .lo < hi - lo) ⌝ }
+{
+    let m = lo + (hi - lo) / 2;
+    if precedes(ns, k, m) {
+        return Span { lo: m + 1, hi: hi };
+    }
+    Span { lo: lo, hi: m }
+}
+
+// The first row at place k or later, where it is one of some rows: by halving.
+fn within(ns: &[u32], k: u64, lo: usize, hi: usize) -> usize
+    requires { ⌜ In-order (now ns) × (lo ≤ position (now ns) k) × (position (now ns) k ≤ hi) ⌝ }
     ensures { λ r. ⌜ r ≡ position (now (ns .entry)) k ⌝ }
 {
-    let mut s = Span {
-        lo: 0,
-        hi: ns.len() / 4,
-    };
+    let mut s = Span { lo: lo, hi: hi };
     while s.lo < s.hi {
-        s = half(ns, k, s);
+        s = half(ns, k, s.lo, s.hi);
     }
     s.lo
 }
 
-// The first row after the holds of server x that begin before second t.
-pub fn after_holds(ns: &[u32], x: u32, t: u32) -> usize
-    ensures { λ r. ⌜ r ≡ position (now (ns .entry)) (hold-key x t) ⌝ }
+// The first row at place k or later, where it is not before a row: by steps that double.
+fn forward(ns: &[u32], k: u64, from: usize) -> usize
+    requires { ⌜ In-order (now ns) × (from ≤ position (now ns) k) ⌝ }
+    ensures { λ r. ⌜ r ≡ position (now (ns .entry)) k ⌝ }
 {
-    position(ns, 4194304 * wide(x) + wide(t))
+    let mut lo = from;
+    let mut m = from;
+    while precedes(ns, k, m) {
+        lo = m + 1;
+        m = lo + (m - from);
+    }
+    within(ns, k, lo, m)
 }
 
-// The first transfer of second t or later.
-pub fn from_second(ns: &[u32], t: u32) -> usize
-    ensures { λ r. ⌜ r ≡ position (now (ns .entry)) (second-key t) ⌝ }
+// The first row at place k or later; the nearer it is after the hint, the sooner.
+pub(crate) fn position(ns: &[u32], k: u64, hint: usize) -> usize
+    requires { ⌜ In-order (now ns) ⌝ }
+    ensures { λ r. ⌜ r ≡ position (now (ns .entry)) k ⌝ }
 {
-    position(ns, 268435456 + 4096 * wide(t))
-}
-
-// The first transfer after second t.
-pub fn after_second(ns: &[u32], t: u32) -> usize
-    ensures { λ r. ⌜ r ≡ position (now (ns .entry)) (second-key (suc t)) ⌝ }
-{
-    position(ns, 268435456 + 4096 * (wide(t) + 1))
+    if hint == 0 {
+        return forward(ns, k, 0);
+    }
+    if precedes(ns, k, hint - 1) {
+        return forward(ns, k, hint);
+    }
+    within(ns, k, 0, hint - 1)
 }

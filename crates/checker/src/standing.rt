@@ -1,14 +1,16 @@
 // The servers where a copy stands at a second, as a set in a word.
 ghost use mathlib.Core.Path.{_≡_};
-ghost use Prim.Native.Nat.{_+_, _-_};
+ghost use Prim.Native.Nat.{_-_, _≤_};
 ghost use Rattle.base.specs.Sets.{has};
 ghost use Rattle.checker.specs.Reading.{as-row};
+ghost use Rattle.checker.specs.Search.{In-order};
 ghost use Rattle.checker.specs.Quick.{join, covers, reaches, sources, with-hold, gather, begun, arrival, along, settle, standing-at};
+ghost use Rattle.checker.specs.Skips.{Skips};
 use crate::Quad;
+use crate::hints::after_holds;
+use crate::hints::after_second;
+use crate::hints::from_second;
 use crate::rows::row;
-use crate::search::after_holds;
-use crate::search::after_second;
-use crate::search::from_second;
 
 // Is server x in the set?
 pub fn member(w: u64, x: u32) -> bool
@@ -47,10 +49,11 @@ fn covers(t: u32, x: u32, r: Quad) -> bool
 }
 
 // Does the last hold of server x that began before second t reach it?
-pub fn reaches(ns: &[u32], t: u32, x: u32) -> bool
+pub(crate) fn reaches(ns: &[u32], hints: &mut [usize; 65], t: u32, x: u32) -> bool
+    requires { ⌜ In-order (now ns) ⌝ }
     ensures { λ r. ⌜ r ≡ reaches (now (ns .entry)) t x ⌝ }
 {
-    let p = after_holds(ns, x, t);
+    let p = after_holds(ns, hints, x, t);
     if p == 0 {
         return false;
     }
@@ -58,11 +61,12 @@ pub fn reaches(ns: &[u32], t: u32, x: u32) -> bool
 }
 
 // The set with server x of some, where a hold keeps the copy there up to second t.
-fn with_hold(ns: &[u32], t: u32, some: u64, w: u64, x: u32) -> u64
+fn with_hold(ns: &[u32], hints: &mut [usize; 65], t: u32, some: u64, w: u64, x: u32) -> u64
+    requires { ⌜ In-order (now ns) ⌝ }
     ensures { λ r. ⌜ r ≡ with-hold (now (ns .entry)) t some w x ⌝ }
 {
     if member(some, x) {
-        if reaches(ns, t, x) {
+        if reaches(ns, hints, t, x) {
             return join(w, x);
         }
         return w;
@@ -70,15 +74,31 @@ fn with_hold(ns: &[u32], t: u32, some: u64, w: u64, x: u32) -> u64
     w
 }
 
+// The next server of a set from x on, below the count; the count where there is none.
+fn next(some: u64, x: u32, count: u32) -> u32
+    requires { ⌜ x ≤ count ⌝ }
+    ensures { λ r. ⌜ (x ≤ r) × (r ≤ count) × Skips some x r ⌝ }
+{
+    if 64 <= x {
+        return count;
+    }
+    let y = x + base::sets::lowest(some >> x);
+    if y < count {
+        return y;
+    }
+    count
+}
+
 // With all of them below the count.
-fn gather(ns: &[u32], t: u32, some: u64, start: u64, count: u32) -> u64
+fn gather(ns: &[u32], hints: &mut [usize; 65], t: u32, some: u64, start: u64, count: u32) -> u64
+    requires { ⌜ In-order (now ns) ⌝ }
     ensures { λ r. ⌜ r ≡ gather (now (ns .entry)) t some start count ⌝ }
 {
     let mut w = start;
-    let mut x: u32 = 0;
+    let mut x = next(some, 0, count);
     while x < count {
-        w = with_hold(ns, t, some, w, x);
-        x += 1;
+        w = with_hold(ns, hints, t, some, w, x);
+        x = next(some, x + 1, count);
     }
     w
 }
@@ -153,11 +173,12 @@ fn settle(ns: &[u32], t: u32, from: usize, to: usize, count: u32, start: u64) ->
 }
 
 // Where a copy stands at second t, of the sources of its transfers and of the servers that no hold keeps up to t.
-pub fn standing(ns: &[u32], count: u32, home: u32, t: u32) -> u64
+pub(crate) fn standing(ns: &[u32], hints: &mut [usize; 65], count: u32, home: u32, t: u32) -> u64
+    requires { ⌜ In-order (now ns) ⌝ }
     ensures { λ r. ⌜ r ≡ standing-at count home (now (ns .entry)) t ⌝ }
 {
-    let from = from_second(ns, t);
-    let to = after_second(ns, t);
-    let w = gather(ns, t, sources(ns, from, to), start(home, t), count);
+    let from = from_second(ns, hints, t);
+    let to = after_second(ns, hints, t);
+    let w = gather(ns, hints, t, sources(ns, from, to), start(home, t), count);
     settle(ns, t, from, to, count, w)
 }

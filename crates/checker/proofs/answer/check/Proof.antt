@@ -1,6 +1,7 @@
 -- `checker::answer::check` meets its contract. Assumes nothing.
 use borrow.Author.Needs.{needs}
 use mathlib.Core.Path.{sym, _∙_}
+use Rattle.log.specs.Conditions.{Accepted}
 use Rattle.log.specs.Fields.{class-of}
 use Rattle.model.specs.LogRequests.{prices-in}
 use Rattle.checker.specs.Answers.{checked}
@@ -23,7 +24,8 @@ enum-told : tie.Need-enum-told
 enum-told c = search needs
 
 schedule-fault-requires : tie.Need-schedule-fault-requires
-schedule-fault-requires c κs = search needs
+unfolding Accepted
+schedule-fault-requires c κs = sym (c .before .before .verdict .ensures) ∙ c .enum-told .given .1
 
 enum-known-v-2 : tie.Need-enum-known-v-2
 enum-known-v-2 c = search needs

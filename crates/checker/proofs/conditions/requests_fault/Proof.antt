@@ -16,10 +16,10 @@ use Rattle.checker.proofs.conditions.requests_fault.Statement.{statemen
 use Rattle.checker.proofs.conditions.requests_fault.Tie as tie
 
 abbrev Inv-loop : tie.InvT-loop
-Inv-loop log ns n i₀ i = (i ≤ n) × (first (each (serve-test log ns) i) ≡ Passed)
+Inv-loop log ns hints₀ n i₀ hints i = (i ≤ n) × (first (each (serve-test log ns) i) ≡ Passed)
 
 abbrev μ-loop : tie.MeasureT-loop
-μ-loop log ns n i₀ i = n - i
+μ-loop log ns hints₀ n i₀ hints i = n - i
 
 at16-requires : tie.Need-at16-requires Inv-loop μ-loop
 at16-requires c κs = search needs
@@ -40,8 +40,8 @@ place-requires c κs = search needs
 returns : tie.Need-returns Inv-loop μ-loop
 unfolding request-count
 returns c =
-    let a = c .before .before .before .before .before .before .before .before .before .args in
-    let l = c .before .before .before .before .before .loop in
+    let a = c .before .before .before .before .before .before .before .before .before .before .args in
+    let l = c .before .before .before .before .before .before .loop in
     let f = serve-test (a .log .now) (a .ns .now) in
     rw (c .place .ensures, c .before .size .ensures .0)
     (sym (each-refused f (l .i) (request-count (a .log .now)) _ (search needs) (l .inv .1) (rw (not-true (c .before .before .before .served .result) (c .before .before .if1 .taken)) at (serve-found (a .log .now) (a .ns .now) (l .i) _ (c .before .before .before .served .ensures)))))
@@ -54,8 +54,8 @@ loop-less c = search needs
 
 loop-again : tie.Need-loop-again Inv-loop μ-loop
 loop-again c =
-    let a = c .before .before .before .before .before .before .before .args in
-    let l = c .before .before .before .loop in
+    let a = c .before .before .before .before .before .before .before .before .args in
+    let l = c .before .before .before .before .loop in
     let f = serve-test (a .log .now) (a .ns .now) in
     (search needs, rw (add-one (l .i)) (each-more f (l .i) (l .inv .1) (rw (not-false (c .before .served .result) (c .if1 .left)) at (serve-found (a .log .now) (a .ns .now) (l .i) _ (c .before .served .ensures)))))
 

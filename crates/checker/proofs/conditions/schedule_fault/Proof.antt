@@ -5,6 +5,7 @@ use borrow.Author.Tests.{eq-eqb, ne-eqb}
 use Rattle.base.specs.Refusals.{first}
 use Rattle.log.specs.Fields.{server-count, home-of, request-count}
 use Rattle.checker.specs.QuickParts.{schedule-parts, row-part-read, copy-part-read}
+use Rattle.checker.specs.QuickTests.{in-order}
 use Rattle.checker.proofs.conditions.schedule_fault.Statement.{statement}
 use Rattle.checker.proofs.conditions.schedule_fault.Tie as tie
 
@@ -53,7 +54,12 @@ word8-requires-2 : tie.Need-word8-requires-2
 word8-requires-2 c κs = search needs
 
 copies-fault-requires : tie.Need-copies-fault-requires
-copies-fault-requires c κs = search needs
+unfolding server-count request-count
+copies-fault-requires c κs =
+    let s = c .before .before .before .before .before .before .before .before .before .before .before .before in
+    let count = c .before .before .before .before .before .before .before .word8 .ensures ∙ c .before .before .before .before .before .before .before .before .at .ensures in
+    in-order (s .args .log .now) (s .args .ns .now) (s .pre)
+    (row-part-read (s .args .log .now) (s .args .ns .now) _ _ _ _ count (c .before .before .before .before .before .before .at16 .ensures) (c .before .before .before .before .before .last-second .ensures) (c .before .before .before .before .rows-fault .ensures) ∙ c .before .before .enum-told .given .1)
 
 enum-known-v-2 : tie.Need-enum-known-v-2
 enum-known-v-2 c = search needs
@@ -76,7 +82,12 @@ enum-told-2 : tie.Need-enum-told-2
 enum-told-2 c = search needs
 
 requests-fault-requires : tie.Need-requests-fault-requires
-requests-fault-requires c κs = search needs
+unfolding server-count request-count
+requests-fault-requires c κs =
+    let s = c .before .before .before .before .before .before .before .before .before .before .before .before .before .before .before in
+    let count = c .before .before .before .before .before .before .before .before .before .before .word8 .ensures ∙ c .before .before .before .before .before .before .before .before .before .before .before .at .ensures in
+    in-order (s .args .log .now) (s .args .ns .now) (s .pre)
+    (row-part-read (s .args .log .now) (s .args .ns .now) _ _ _ _ count (c .before .before .before .before .before .before .before .before .before .at16 .ensures) (c .before .before .before .before .before .before .before .before .last-second .ensures) (c .before .before .before .before .before .before .before .rows-fault .ensures) ∙ c .before .before .before .before .before .enum-told .given .1)
 
 returns-4 : tie.Need-returns-4
 unfolding first server-count request-count home-of

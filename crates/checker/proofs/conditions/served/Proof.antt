@@ -43,7 +43,7 @@ stands-requires c κs = search needs
 
 returns : tie.Need-returns
 unfolding served server-count home-of
-returns c = rw (c .stands .ensures, c .before .word16 .ensures, c .before .before .word82 .ensures, c .before .before .before .at2 .ensures, c .before .before .before .before .word8 .ensures, c .before .before .before .before .before .at .ensures, c .before .before .before .before .before .before .at16 .ensures, c .before .before .before .before .before .before .before .at32 .ensures, c .before .before .before .before .before .before .before .before .size .ensures .0)
+returns c = rw (c .stands .ensures, c .before .word16 .ensures, c .before .before .word82 .ensures, c .before .before .before .at2 .ensures, c .before .before .before .before .word8 .ensures, c .before .before .before .before .before .at .ensures, c .before .before .before .before .before .before .before .at16 .ensures, c .before .before .before .before .before .before .before .before .at32 .ensures, c .before .before .before .before .before .before .before .before .before .size .ensures .0)
 
 pub served-spec : {M : Type 1} → statement M
 served-spec =

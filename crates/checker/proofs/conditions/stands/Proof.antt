@@ -19,7 +19,7 @@ member-requires c κs = search needs
 
 returns-2 : tie.Need-returns-2
 unfolding stands-at
-returns-2 c = rw (← c .before .before .before .reaches .ensures, c .before .before .if1 .left, ← c .before .standing .ensures) (c .member .ensures)
+returns-2 c = rw (← c .before .before .before .before .reaches .ensures, c .before .before .before .if1 .left, ← c .before .standing .ensures) (c .member .ensures)
 
 pub stands-spec : {M : Type 1} → statement M
 stands-spec =

@@ -13,15 +13,15 @@ scan-requires : tie.Need-scan-requires
 scan-requires c κs = search needs
 
 holds-fault-requires : tie.Need-holds-fault-requires
-holds-fault-requires c κs = rw (c .before .from-second .ensures) (position-most (c .before .before .before .args .ns .now) (second-key 0))
+holds-fault-requires c κs = (search needs, rw (c .before .before .before .from-second .ensures) (position-most (c .before .before .before .before .before .before .args .ns .now) (second-key 0)))
 
 enum-known-v : tie.Need-enum-known-v
 enum-known-v c = search needs
 
 returns : tie.Need-returns
 returns c =
-    let a = c .before .before .before .before .before .before .before .args in
-    rw (copy-parts (a .count) (a .home) (a .ns .now) _ _ _ (c .before .before .before .before .before .from-second .ensures) (c .before .before .before .before .scan .ensures .0) (c .before .before .before .before .scan .ensures .1), ← c .before .before .before .holds-fault .ensures, c .before .v .given .1)
+    let a = c .before .before .before .before .before .before .before .before .before .before .args in
+    rw (copy-parts (a .count) (a .home) (a .ns .now) _ _ _ (c .before .before .before .before .before .before .before .from-second .ensures) (c .before .before .before .before .before .scan .ensures .0) (c .before .before .before .before .before .scan .ensures .1), ← c .before .before .before .holds-fault .ensures, c .before .v .given .1)
 
 enum-told : tie.Need-enum-told
 enum-told c = search needs
@@ -31,8 +31,8 @@ transfer-fault-requires c κs = search needs
 
 returns-2 : tie.Need-returns-2
 returns-2 c =
-    let a = c .before .before .before .before .before .before .before .args in
-    rw (copy-parts (a .count) (a .home) (a .ns .now) _ _ _ (c .before .before .before .before .before .from-second .ensures) (c .before .before .before .before .scan .ensures .0) (c .before .before .before .before .scan .ensures .1), ← c .before .before .before .holds-fault .ensures, c .before .enum-told .given .1) (c .transfer-fault .ensures)
+    let a = c .before .before .before .before .before .before .before .before .before .before .args in
+    rw (copy-parts (a .count) (a .home) (a .ns .now) _ _ _ (c .before .before .before .before .before .before .before .from-second .ensures) (c .before .before .before .before .before .scan .ensures .0) (c .before .before .before .before .before .scan .ensures .1), ← c .before .before .before .holds-fault .ensures, c .before .enum-told .given .1) (c .transfer-fault .ensures)
 
 pub copies-fault-spec : {M : Type 1} → statement M
 copies-fault-spec =

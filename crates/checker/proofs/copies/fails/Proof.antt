@@ -19,8 +19,8 @@ fed-requires c κs = search needs
 
 returns-2 : tie.Need-returns-2
 returns-2 c =
-    let a = c .before .before .before .before .before .args in
-    rw (ne-eqb _ _ (c .before .before .before .if1 .left), fails-read (a .home) (a .ns .now) (a .i) _ _ _ (c .before .before .row .ensures) (c .before .second .ensures) (c .fed .ensures))
+    let a = c .before .before .before .before .before .before .args in
+    rw (ne-eqb _ _ (c .before .before .before .before .if1 .left), fails-read (a .home) (a .ns .now) (a .i) _ _ _ (c .before .before .before .row .ensures) (c .before .second .ensures) (c .fed .ensures))
 
 pub fails-spec : {M : Type 1} → statement M
 fails-spec = tie.close (tie.spec returns row-requires second-requires fed-requires returns-2)

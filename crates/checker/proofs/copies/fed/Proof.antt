@@ -23,8 +23,8 @@ aimed-requires c κs = search needs
 
 returns-2 : tie.Need-returns-2
 returns-2 c =
-    let a = c .before .before .before .before .before .before .args in
-    rw (fed-read (a .home) (a .ns .now) (a .t) (a .x) _ _ _ _ (c .before .before .from-second .ensures) (c .before .after-second .ensures) (c .before .before .before .before .begins .ensures) (c .aimed .ensures), c .before .before .before .if1 .left)
+    let a = c .before .before .before .before .before .before .before .before .args in
+    rw (fed-read (a .home) (a .ns .now) (a .t) (a .x) _ _ _ _ (c .before .before .before .from-second .ensures) (c .before .after-second .ensures) (c .before .before .before .before .before .before .begins .ensures) (c .aimed .ensures), c .before .before .before .before .before .if1 .left)
 
 pub fed-spec : {M : Type 1} → statement M
 fed-spec =

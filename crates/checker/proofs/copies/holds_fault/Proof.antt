@@ -15,10 +15,10 @@ use Rattle.checker.proofs.copies.holds_fault.Statement.{statement}
 use Rattle.checker.proofs.copies.holds_fault.Tie as tie
 
 abbrev Inv-loop : tie.InvT-loop
-Inv-loop ns home low holds i₀ i = (i ≤ holds) × (first (each (hold-test home ns low) i) ≡ Passed)
+Inv-loop ns hints₀ home low holds i₀ hints i = (i ≤ holds) × (first (each (hold-test home ns low) i) ≡ Passed)
 
 abbrev μ-loop : tie.MeasureT-loop
-μ-loop ns home low holds i₀ i = holds - i
+μ-loop ns hints₀ home low holds i₀ hints i = holds - i
 
 loop-holds : tie.Need-loop-holds Inv-loop μ-loop
 unfolding first each
@@ -33,8 +33,8 @@ place-requires c κs = search needs
 
 returns : tie.Need-returns Inv-loop μ-loop
 returns c =
-    let a = c .before .before .before .before .before .before .args in
-    let l = c .before .before .before .before .loop in
+    let a = c .before .before .before .before .before .before .before .args in
+    let l = c .before .before .before .before .before .loop in
     rw (c .place .ensures)
     (sym (each-refused (hold-test (a .home) (a .ns .now) (a .low)) (l .i) (a .holds) _ (search needs) (l .inv .1) (rw (c .before .if1 .taken) at (hold-found (a .home) (a .ns .now) (a .low) (l .i) _ (c .before .before .fails .ensures)))))
 
@@ -46,8 +46,8 @@ loop-less c = search needs
 
 loop-again : tie.Need-loop-again Inv-loop μ-loop
 loop-again c =
-    let a = c .before .before .before .before .before .args in
-    let l = c .before .before .before .loop in
+    let a = c .before .before .before .before .before .before .args in
+    let l = c .before .before .before .before .loop in
     (search needs, rw (add-one (l .i)) (each-more (hold-test (a .home) (a .ns .now) (a .low)) (l .i) (l .inv .1) (rw (c .if1 .left) at (hold-found (a .home) (a .ns .now) (a .low) (l .i) _ (c .before .fails .ensures)))))
 
 returns-2 : tie.Need-returns-2 Inv-loop μ-loop

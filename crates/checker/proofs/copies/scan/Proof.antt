@@ -12,10 +12,10 @@ use Rattle.checker.proofs.copies.scan.Statement.{statement}
 use Rattle.checker.proofs.copies.scan.Tie as tie
 
 abbrev Inv-loop : tie.InvT-loop
-Inv-loop ns count home from rows seen₀ low₀ late₀ i₀ seen low late i = (from ≤ i) × (i - from ≤ rows - from) × (low ≤ rows) × (low ≡ starved count home ns from (i - from)) × (late ≡ unbacked count home ns from (i - from)) × (seen .word ≡ standing-at count home ns (seen .second))
+Inv-loop ns hints₀ count home from rows seen₀ low₀ late₀ i₀ hints seen low late i = (from ≤ i) × (i - from ≤ rows - from) × (low ≤ rows) × (low ≡ starved count home ns from (i - from)) × (late ≡ unbacked count home ns from (i - from)) × (seen .word ≡ standing-at count home ns (seen .second))
 
 abbrev μ-loop : tie.MeasureT-loop
-μ-loop ns count home from rows seen₀ low₀ late₀ i₀ seen low late i = rows - i
+μ-loop ns hints₀ count home from rows seen₀ low₀ late₀ i₀ hints seen low late i = rows - i
 
 standing-requires : tie.Need-standing-requires Inv-loop μ-loop
 standing-requires c κs = search needs
@@ -23,7 +23,7 @@ standing-requires c κs = search needs
 loop-holds : tie.Need-loop-holds Inv-loop μ-loop
 unfolding starved unbacked row-count
 loop-holds c =
-    let a = c .before .before .args in
+    let a = c .before .before .before .args in
     rw (sub-self (a .from)) (search needs, search needs, search needs, refl, refl, c .standing .ensures)
 
 row-requires : tie.Need-row-requires Inv-loop μ-loop
@@ -55,16 +55,16 @@ loop-less c = search needs
 
 loop-again : tie.Need-loop-again Inv-loop μ-loop
 loop-again c =
-    let a = c .before .before .before .before .before .before .before .before .before .before .before .args in
-    let l = c .before .before .before .before .before .before .before .before .loop in
-    let at = c .before .before .before .before .seen-at in
-    let second = at .ensures .0 ∙ c .before .before .before .before .before .second .ensures in
+    let a = c .before .before .before .before .before .before .before .before .before .before .before .before .before .before .args in
+    let l = c .before .before .before .before .before .before .before .before .before .before .loop in
+    let at = c .before .before .before .before .before .seen-at in
+    let second = at .ensures .0 ∙ c .before .before .before .before .before .before .second .ensures in
     let now : at .result .word ≡ standing-at (a .count) (a .home) (a .ns .now) (at .result .second) = rw (at .ensures .0) (at .ensures .1) in (
       search needs,
       search needs,
       rw (c .before .before .lower .ensures) (lower-within _ (l .low) _ (l .inv .2)),
-      starved-more (a .count) (a .home) (a .ns .now) (a .from) (l .i) (l .low) _ _ _ _ _ (l .inv .0) (l .inv .3) (c .before .before .before .before .before .before .row .ensures) second now (c .before .before .before .unfed .ensures) (c .before .before .lower .ensures),
-      unbacked-more (a .count) (a .home) (a .ns .now) (a .from) (l .i) (l .late) _ _ _ _ (l .inv .0) (l .inv .4) (c .before .before .before .before .before .before .row .ensures) second now (rw (← c .before .unbacked .ensures) (c .lower2 .ensures)),
+      starved-more (a .count) (a .home) (a .ns .now) (a .from) (l .i) (l .low) _ _ _ _ _ (l .inv .0) (l .inv .3) (c .before .before .before .before .before .before .before .before .row .ensures) second now (c .before .before .before .unfed .ensures) (c .before .before .lower .ensures),
+      unbacked-more (a .count) (a .home) (a .ns .now) (a .from) (l .i) (l .late) _ _ _ _ (l .inv .0) (l .inv .4) (c .before .before .before .before .before .before .before .before .row .ensures) second now (rw (← c .before .unbacked .ensures) (c .lower2 .ensures)),
       now,
     )
 
@@ -72,7 +72,7 @@ returns : tie.Need-returns Inv-loop μ-loop
 unfolding row-count
 returns c =
     let l = c .before .loop in
-    let a = c .before .before .before .before .args in
+    let a = c .before .before .before .before .before .args in
     let e : l .i - a .from ≡ row-count (a .ns .now) - a .from = omega arith in
     (rw e at (l .inv .3), rw e at (l .inv .4))
 

@@ -24,14 +24,14 @@ starts-requires c κs = search needs
 
 returns-2 : tie.Need-returns-2
 returns-2 c =
-    let a = c .before .before .before .before .before .before .before .args in
-    rw (unfed-read (a .ns .now) (a .w) (a .t) (a .x) _ _ _ _ (c .before .before .before .before .before .member .ensures) (c .before .before .before .after-holds .ensures) (c .before .before .row .ensures) (c .before .starts .ensures), c .before .before .before .before .if1 .left, c .if2 .taken)
+    let a = c .before .before .before .before .before .before .before .before .args in
+    rw (unfed-read (a .ns .now) (a .w) (a .t) (a .x) _ _ _ _ (c .before .before .before .before .before .before .member .ensures) (c .before .before .before .after-holds .ensures) (c .before .before .row .ensures) (c .before .starts .ensures), c .before .before .before .before .before .if1 .left, c .if2 .taken)
 
 returns-3 : tie.Need-returns-3
 unfolding row-count
 returns-3 c =
-    let a = c .before .before .before .before .before .before .before .args in
-    rw (unfed-read (a .ns .now) (a .w) (a .t) (a .x) _ _ _ _ (c .before .before .before .before .before .member .ensures) (c .before .before .before .after-holds .ensures) (c .before .before .row .ensures) (c .before .starts .ensures), c .before .before .before .before .if1 .left, c .if2 .left)
+    let a = c .before .before .before .before .before .before .before .before .args in
+    rw (unfed-read (a .ns .now) (a .w) (a .t) (a .x) _ _ _ _ (c .before .before .before .before .before .before .member .ensures) (c .before .before .before .after-holds .ensures) (c .before .before .row .ensures) (c .before .starts .ensures), c .before .before .before .before .before .if1 .left, c .if2 .left)
 
 pub unfed-spec : {M : Type 1} → statement M
 unfed-spec =

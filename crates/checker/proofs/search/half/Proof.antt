@@ -1,10 +1,10 @@
 -- `checker::search::half` meets its contract. Assumes nothing.
 use borrow.Author.Needs.{needs}
-use borrow.Author.Tests.{le-leb, lt-leb}
-use native.Mathlib.Numerals.{add-one}
-use mathlib.Core.Path.{refl}
-use Rattle.checker.specs.SearchLaws.{from-on-read}
-use Rattle.checker.specs.Search.{middle}
+use borrow.Author.Tests.{ltb-true, ltb-false}
+use mathlib.Core.Path.{sym, _∙_}
+use native.Mathlib.Omega.{arith}
+use Prim.Native.Nat.{_+_, _-_, _/_, _<_, _≤_}
+use Rattle.checker.specs.Search.{position}
 use Rattle.checker.proofs.search.half.Statement.{statement}
 use Rattle.checker.proofs.search.half.Tie as tie
 
@@ -14,26 +14,23 @@ sub-m c = search needs
 add-m : tie.Need-add-m
 add-m c = search needs
 
-row-requires : tie.Need-row-requires
-row-requires c κs = search needs
+precedes-requires : tie.Need-precedes-requires
+precedes-requires c κs = search needs
 
-key-requires : tie.Need-key-requires
-key-requires c κs = search needs
+add-t9 : tie.Need-add-t9
+add-t9 c = search needs
 
 returns : tie.Need-returns
-unfolding middle
 returns c =
-    let a = c .before .before .before .before .before .before .args in
-    rw (from-on-read (a .ns .now) (a .k) _ _ _ (c .before .before .row .ensures) (c .before .key .ensures), le-leb _ _ (c .if1 .taken)) (refl, refl)
-
-add-t5 : tie.Need-add-t5
-add-t5 c = search needs
+    let a = c .before .before .before .args in
+    let m : a .lo + (a .hi - a .lo) / 2 < position (a .ns .now) (a .k) = ltb-true _ _ (sym (c .before .precedes .ensures) ∙ c .if1 .taken) in
+    (omega arith, search needs, omega arith)
 
 returns-2 : tie.Need-returns-2
-unfolding middle
 returns-2 c =
-    let a = c .before .before .before .before .before .before .args in
-    rw (from-on-read (a .ns .now) (a .k) _ _ _ (c .before .before .row .ensures) (c .before .key .ensures), lt-leb _ _ (c .if1 .left), add-one) (refl, refl)
+    let a = c .before .before .before .args in
+    let m : position (a .ns .now) (a .k) ≤ a .lo + (a .hi - a .lo) / 2 = ltb-false _ _ (sym (c .before .precedes .ensures) ∙ c .if1 .left) in
+    (search needs, omega arith, omega arith)
 
 pub half-spec : {M : Type 1} → statement M
-half-spec = tie.close (tie.spec sub-m add-m row-requires key-requires returns add-t5 returns-2)
+half-spec = tie.close (tie.spec sub-m add-m precedes-requires add-t9 returns returns-2)

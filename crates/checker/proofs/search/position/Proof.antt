@@ -1,45 +1,56 @@
 -- `checker::search::position` meets its contract. Assumes nothing.
 use borrow.Author.Needs.{needs}
-use mathlib.Core.Path.{_≡_, sym, _∙_}
-use Prim.Native.Nat.{_-_}
-use native.Mathlib.Nat.{sub-zero}
-use Rattle.checker.specs.Search.{from-on, halve, position}
-use Rattle.checker.specs.SearchLaws.{span-less, halve-next, halve-end}
-use Rattle.model.specs.Checking.{row-count}
+use borrow.Author.Tests.{ltb-true, ltb-false}
+use mathlib.Core.Path.{sym, _∙_}
+use native.Mathlib.Omega.{arith}
+use Prim.Native.Nat.{_-_, _<_, _≤_}
+use Rattle.checker.specs.Search.{position}
 use Rattle.checker.proofs.search.position.Statement.{statement}
 use Rattle.checker.proofs.search.position.Tie as tie
 
-abbrev Inv-loop : tie.InvT-loop
-Inv-loop ns k s₀ s = halve (s .hi - s .lo) (from-on ns k) (s .lo) (s .hi) ≡ position ns k
+forward-requires : tie.Need-forward-requires
+forward-requires c κs = search needs
 
-abbrev μ-loop : tie.MeasureT-loop
-μ-loop ns k s₀ s = s .hi - s .lo
+returns : tie.Need-returns
+returns c = search needs
 
-loop-holds : tie.Need-loop-holds Inv-loop μ-loop
-unfolding position row-count
-loop-holds c = rw sub-zero
+sub-precedes : tie.Need-sub-precedes
+sub-precedes c = search needs
 
-half-requires : tie.Need-half-requires Inv-loop μ-loop
-half-requires c κs = search needs
+precedes-requires : tie.Need-precedes-requires
+precedes-requires c κs = search needs
 
-loop-less : tie.Need-loop-less Inv-loop μ-loop
-loop-less c =
-    let l = c .before .before .before .loop in
-    let f = from-on (c .before .before .before .before .before .args .ns .now) (c .before .before .before .before .before .args .k) in
-    rw (c .half .ensures .0, c .half .ensures .1) (span-less f (l .s .lo) (l .s .hi) (c .before .if1 .taken))
+forward-requires-2 : tie.Need-forward-requires-2
+forward-requires-2 c κs =
+    let a = c .before .before .before .before .args in
+    let m : a .hint - 1 < position (a .ns .now) (a .k) = ltb-true _ _ (sym (c .before .precedes .ensures) ∙ c .if2 .taken) in
+    (search needs, omega arith)
 
-loop-again : tie.Need-loop-again Inv-loop μ-loop
-loop-again c =
-    let l = c .before .before .before .loop in
-    let f = from-on (c .before .before .before .before .before .args .ns .now) (c .before .before .before .before .before .args .k) in
-    rw (c .half .ensures .0, c .half .ensures .1) (halve-next f (l .s .lo) (l .s .hi) (c .before .if1 .taken) ∙ l .inv)
+returns-2 : tie.Need-returns-2
+returns-2 c = search needs
 
-returns : tie.Need-returns Inv-loop μ-loop
-returns c =
-    let l = c .before .before .loop in
-    let f = from-on (c .before .before .before .before .args .ns .now) (c .before .before .before .before .args .k) in
-    sym (halve-end f (l .s .lo) (l .s .hi) (c .if1 .left)) ∙ l .inv
+sub-within : tie.Need-sub-within
+sub-within c = search needs
+
+within-requires : tie.Need-within-requires
+within-requires c κs =
+    let a = c .before .before .before .before .args in
+    let m : position (a .ns .now) (a .k) ≤ a .hint - 1 = ltb-false _ _ (sym (c .before .precedes .ensures) ∙ c .if2 .left) in
+    (search needs, search needs, search needs)
+
+returns-3 : tie.Need-returns-3
+returns-3 c = search needs
 
 pub position-spec : {M : Type 1} → statement M
 position-spec =
-    tie.close (tie.spec Inv-loop μ-loop loop-holds half-requires loop-less loop-again returns)
+    tie.close
+    (tie.spec
+    forward-requires
+    returns
+    sub-precedes
+    precedes-requires
+    forward-requires-2
+    returns-2
+    sub-within
+    within-requires
+    returns-3)

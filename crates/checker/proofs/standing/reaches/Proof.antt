@@ -25,7 +25,7 @@ covers-requires c κs = search needs
 
 returns-2 : tie.Need-returns-2
 returns-2 c =
-    let a = c .before .before .before .before .before .args in
+    let a = c .before .before .before .before .before .before .args in
     c .covers .ensures ∙ sym (reaches-read (a .ns .now) (a .t) (a .x) _ _ (c .before .before .before .after-holds .ensures) (c .before .before .if1 .left) (c .before .row .ensures))
 
 pub reaches-spec : {M : Type 1} → statement M

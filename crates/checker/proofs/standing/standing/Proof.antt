@@ -24,8 +24,8 @@ settle-requires c κs = search needs
 
 returns : tie.Need-returns
 returns c =
-    let a = c .before .before .before .before .before .before .before .args in
-    standing-read (a .count) (a .home) (a .ns .now) (a .t) _ _ _ _ _ _ (c .before .before .before .before .before .from-second .ensures) (c .before .before .before .before .after-second .ensures) (c .before .before .before .sources .ensures) (c .before .before .start .ensures) (c .before .gather .ensures) (c .settle .ensures)
+    let a = c .before .before .before .before .before .before .before .before .before .before .args in
+    standing-read (a .count) (a .home) (a .ns .now) (a .t) _ _ _ _ _ _ (c .before .before .before .before .before .before .before .from-second .ensures) (c .before .before .before .before .before .after-second .ensures) (c .before .before .before .sources .ensures) (c .before .before .start .ensures) (c .before .gather .ensures) (c .settle .ensures)
 
 pub standing-spec : {M : Type 1} → statement M
 standing-spec =

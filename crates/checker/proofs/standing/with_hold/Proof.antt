@@ -15,11 +15,11 @@ join-requires c κs = search needs
 
 returns : tie.Need-returns
 unfolding with-hold
-returns c = rw (← c .before .before .before .before .member .ensures, c .before .before .before .if1 .taken, ← c .before .before .reaches .ensures, c .before .if2 .taken) (c .join .ensures)
+returns c = rw (← c .before .before .before .before .before .member .ensures, c .before .before .before .before .if1 .taken, ← c .before .before .reaches .ensures, c .before .if2 .taken) (c .join .ensures)
 
 returns-2 : tie.Need-returns-2
 unfolding with-hold
-returns-2 c = rw (← c .before .before .before .member .ensures, c .before .before .if1 .taken, ← c .before .reaches .ensures, c .if2 .left)
+returns-2 c = rw (← c .before .before .before .before .member .ensures, c .before .before .before .if1 .taken, ← c .before .reaches .ensures, c .if2 .left)
 
 returns-3 : tie.Need-returns-3
 unfolding with-hold
