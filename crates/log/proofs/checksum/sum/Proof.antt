@@ -5,6 +5,7 @@ use native.Mathlib.Omega.{arith}
 use Prim.Native.Nat.{_-_}
 use lib.ListN.{length, take, drop, length-drop}
 use lib.Seq.{length-take-le, take-all}
+use Rattle.log.specs.Sum.{sum-from}
 use Rattle.log.specs.SumLaws.{sum-parts, sum-head, sum-short}
 use Rattle.log.proofs.checksum.sum.Statement.{statement}
 use Rattle.log.proofs.checksum.sum.Tie as tie
@@ -40,7 +41,8 @@ returns-3 : tie.Need-returns-3
 returns-3 c =
     let log = c .before .before .before .before .before .before .before .args .log .now in
     let rest : take (length log - 24) (drop 24 log) ≡ drop 24 log = take-all (length log - 24) (drop 24 log) (simp length-drop (omega arith)) in
-    c .sum-from3 .ensures ∙ rw (rest, c .before .before .before .sum-from2 .ensures) (sym (sum-parts log))
+    let tail : c .sum-from3 .result ≡ sum-from (c .before .before .before .sum-from2 .result) (take (length log - 24) (drop 24 log)) = c .sum-from3 .ensures in
+    tail ∙ rw (rest, c .before .before .before .sum-from2 .ensures) (sym (sum-parts log))
 
 pub sum-spec : {M : Type 1} → statement M
 sum-spec =

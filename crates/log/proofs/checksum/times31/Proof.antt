@@ -1,11 +1,19 @@
 -- `log::checksum::times31` meets its contract. Assumes nothing.
 use borrow.Author.Needs.{needs}
-use mathlib.Core.Path.{ap}
-use Prim.Native.Nat.{ℕ, _%_, _^_}
+use mathlib.Core.Path.{_≡_, ap}
+use Prim.Native.Nat.{ℕ, _+_, _*_, _%_, _^_}
 use native.Mathlib.Omega.{arith}
 use native.Mathlib.Nat.{mod-add-mod, add-mod-mod}
 use Rattle.log.proofs.checksum.times31.Statement.{statement}
 use Rattle.log.proofs.checksum.times31.Tie as tie
+
+-- a number and itself
+abbrev twice : ℕ → ℕ
+twice x = x + x
+
+-- sixteen, eight, four, two and one of x
+thirty-one : (x : ℕ) → twice (twice (twice (twice x))) + twice (twice (twice x)) + twice (twice x) + twice x + x ≡ 31 * x
+thirty-one x = omega arith
 
 wrapping-add-u32-requires : tie.Need-wrapping-add-u32-requires
 wrapping-add-u32-requires c κs = search needs
@@ -45,7 +53,7 @@ returns c =
       mod-add-mod,
       add-mod-mod,
     )
-    (ap (λ (n : ℕ). n % 2 ^ 32) (omega arith))
+    (ap (λ (n : ℕ). n % 2 ^ 32) (thirty-one _))
 
 pub times31-spec : {M : Type 1} → statement M
 times31-spec =

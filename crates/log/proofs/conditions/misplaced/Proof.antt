@@ -1,5 +1,8 @@
 -- `log::conditions::misplaced` meets its contract. Assumes nothing.
 use borrow.Author.Needs.{needs}
+use mathlib.Core.Bool.{true, false}
+use mathlib.Core.Path.{_≡_}
+use lib.Dec.{eqb}
 use Rattle.log.specs.Fields.{requests-offset, id-offset, total-length, length-for}
 use borrow.Author.Tests.{eq-eqb, ne-eqb}
 use Rattle.log.proofs.conditions.misplaced.Statement.{statement}
@@ -17,7 +20,9 @@ at32-requires-2 c κs = search needs
 
 returns-2 : tie.Need-returns-2
 unfolding requests-offset id-offset
-returns-2 c = rw (← c .before .before .before .at32 .ensures, eq-eqb _ _ (c .before .before .if1 .left), ← c .before .at322 .ensures, ne-eqb _ _ (c .if2 .taken))
+returns-2 c =
+    let elsewhere : eqb (c .before .at322 .result) 24 ≡ false = ne-eqb _ _ (c .if2 .taken) in
+    rw (← c .before .before .before .at32 .ensures, eq-eqb _ _ (c .before .before .if1 .left), ← c .before .at322 .ensures, elsewhere)
 
 at32-requires-3 : tie.Need-at32-requires-3
 at32-requires-3 c κs = search needs
@@ -34,11 +39,12 @@ add-result c = search needs
 returns-3 : tie.Need-returns-3
 unfolding requests-offset id-offset total-length length-for
 returns-3 c =
+    let there : eqb (c .before .before .before .at322 .result) 24 ≡ true = eq-eqb _ _ (c .before .before .if2 .left) in
     rw (
       ← c .before .before .before .before .before .at32 .ensures,
       eq-eqb _ _ (c .before .before .before .before .if1 .left),
       ← c .before .before .before .at322 .ensures,
-      eq-eqb _ _ (c .before .before .if2 .left),
+      there,
       c .before .at323 .ensures,
       c .word .ensures .0,
     )

@@ -108,8 +108,9 @@ returns-3 c =
     let e : 4 * w .wide .result ≡ 4 * length found = omega arith in
     let marks : k .clear8 .last .0 ≡ cleared (a .n) (splice 0 (take (a .n) (a .letters .now)) (a .marks .now)) =
     k .clear8 .ensures ∙ rw (p .copy .ensures, w .before .size .ensures .0) in
+    let zeroed : d .clear32 .last .0 ≡ cleared (4 * w .wide .result) _ = d .clear32 .ensures in
     let rows : d .clear32 .last .0 ≡ cleared (4 * length found) (put-rows 0 found (a .rows .now)) =
-    d .clear32 .ensures ∙ rw (q .put-all .ensures, w .before .before .before .before .holders .ensures, e)
+    zeroed ∙ rw (q .put-all .ensures, w .before .before .before .before .holders .ensures, e)
     (ap (λ (x : List _). cleared (4 * length found) (put-rows 0 x (a .rows .now))) (filled-rows (a .n) (a .count) (a .seconds .now) (a .servers .now) (a .letters .now) (s .pre))) in
     rw (marks, rows) (both-fit found (a .n) (a .cost) (a .letters .now) (a .marks .now) (a .rows .now) _ (s .pre .lettered) (omega (arith, w .before .size .ensures .0, p .before .before .before .before .if1 .left)) (omega (arith, p .before .before .before .if2 .left)) (ap (Plan (a .cost)) f))
 

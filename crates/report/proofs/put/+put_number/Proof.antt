@@ -4,7 +4,7 @@ use native.Mathlib.Omega.{arith}
 use Rattle.report.specs.Page.{added}
 use Rattle.report.specs.PageLaws.{added-append}
 use Rattle.report.specs.DecimalLaws.{decimal-digit, decimal-more}
-use Prim.Native.Nat.{ℕ}
+use Prim.Native.Nat.{ℕ, _<_}
 use borrow.Fn.Kinds.{In}
 use borrow.Fn.PlainCycle.{Measures, is, falls, and}
 use Rattle.report.proofs.put.put_number.Reads as put-number

@@ -1,6 +1,6 @@
 -- `vectors::brute::cheapest` meets its contract. Assumes nothing.
 use borrow.Author.Needs.{needs}
-use Prim.Native.Nat.{_≤_}
+use Prim.Native.Nat.{_≤_, _-_}
 use Rattle.vectors.proofs.brute.cheapest.Statement.{statement}
 use Rattle.vectors.proofs.brute.cheapest.Tie as tie
 
