@@ -6,7 +6,9 @@ use mathlib.Core.Path.{_≡_, refl, ap, _∙_}
 use Prim.Native.Nat.{ℕ, _+_, _<_, _^_}
 use native.Mathlib.Omega.{arith}
 use native.Mathlib.Numerals.{add-one}
+use lib.Dec.{ltb}
 use lib.ListN.{length, length-set}
+use Rattle.base.specs.Choice.{pick}
 use Rattle.base.specs.Sets.{has, put, cut, members}
 use Rattle.base.specs.SetLaws.{members-cut}
 use Rattle.base.specs.Lists.{build}
@@ -35,7 +37,8 @@ loop-holds c =
     let a = c .before .before .args in
     let p = c .before .before .pre in
     let below : a .q .server < 64 = omega (arith, p .2 .counted, p .2 .sound .count-most) in
-    let e : c .put .result ≡ put (a .cache .holders) (a .q .server) = c .put .ensures ∙ rw (lt-ltb _ _ below, p .0 .holders) in
+    let own : c .put .result ≡ pick (ltb (a .q .server) 64) (put (a .o .holders) (a .q .server)) (a .o .holders) = c .put .ensures in
+    let e : c .put .result ≡ put (a .cache .holders) (a .q .server) = own ∙ rw (lt-ltb _ _ below, p .0 .holders) in
     let idle : (y : ℕ) → has (c .put .result) y ≡ false → Untouched (a .cache) (a .q .server) y = λ y h. untouched (a .cache) (a .q .server) y (p .2 .sound) (rw e at h) in (
       refl,
       list-first 64 (c .put .result) (next-use (a .cache) (a .q .second) (a .q .server)) (λ y h. no-next-use (a .cache) (a .q .second) (a .q .server) y (idle y h)),
