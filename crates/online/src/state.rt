@@ -46,7 +46,7 @@ fn window_of(cache: Cache) -> u32
 }
 
 // The outline of a state.
-pub fn outline_of(cache: Cache) -> Outline
+pub(crate) fn outline_of(cache: Cache) -> Outline
     ensures { λ r. ⌜ Outlines cache r ⌝ }
 {
     Outline {
