@@ -1,15 +1,15 @@
 -- A list built from a function, a run of elements put over a list, a test of every element. Assumes nothing.
 use mathlib.Core.Bool.{Bool, true}
 use mathlib.Core.List.{List, [], _∷_, _++_, append-assoc}
-use mathlib.Core.Logic.{_⊎_, inl, inr}
+use mathlib.Core.Logic.{_⊎_, inl, inr, _≢_}
 use mathlib.Core.Path.{_≡_, refl, sym, ap, ap₂, _∙_}
 use Prim.Native.Nat.{ℕ, zero, suc, _+_, _-_, _≤_, _<_}
 use native.Mathlib.Omega.{arith}
 use lib.Dec.{leb}
-use lib.ListN.{length, getD, take, drop, replicate, length-append, length-take, length-drop, List·getD-append}
-use lib.Seq.{paste, take-length, take-append-le, take-suc, take-all, getD-at}
+use lib.ListN.{length, getD, set, take, drop, replicate, length-append, length-set, length-take, length-drop, List·getD-append}
+use lib.Seq.{paste, ext-getD, getD-set-same, getD-set-other, take-length, take-append-le, take-suc, take-all, getD-at}
 use borrow.Author.Tests.{le-leb, lt-leb}
-use Rattle.base.specs.Choice.{pick, both, le-or-lt}
+use Rattle.base.specs.Choice.{pick, both, le-or-lt, same-or-not}
 use Rattle.base.specs.ChoiceLaws.{both-true}
 
 -- the n values f 0, f 1, .. in order
@@ -47,6 +47,18 @@ build-at (suc n) f i d h = go (le-or-lt n i) (build-at n f i d)
         let e : n ≡ i = omega arith in
         rw (← e) (getD-at (build n f) (f n) [] d n (build-length n f))
     go (inr l) r = List·getD-append (build n f) (f n ∷ []) d i (omega (arith, build-length n f)) ∙ r l
+
+-- a built list with one value set
+pub build-set : (n y v : ℕ) (f g : ℕ → ℕ) → g y ≡ v → ((k : ℕ) → k ≢ y → g k ≡ f k) → set (build n f) y v ≡ build n g
+build-set n y v f g e d =
+    ext-getD 0 (set (build n f) y v) (build n g) (length-set (build n f) y v ∙ build-length n f ∙ sym (build-length n g))
+    (λ k h.
+    let l : k < n = omega (arith, length-set (build n f) y v, build-length n f) in
+    go k l (same-or-not k y) ∙ sym (build-at n g k 0 l))
+  where
+    go : (k : ℕ) → k < n → (k ≡ y) ⊎ (k ≢ y) → getD (set (build n f) y v) k 0 ≡ g k
+    go k l (inl z) = rw z (getD-set-same (build n f) y v 0 (omega (arith, build-length n f)) ∙ sym e)
+    go k l (inr z) = getD-set-other (build n f) y k v 0 z ∙ build-at n f k 0 l ∙ sym (d k z)
 
 -- the first k of them are built from the same function
 pub build-take : {A : Type 0} (k n : ℕ) (f : ℕ → A) → k ≤ n → take k (build n f) ≡ build k f

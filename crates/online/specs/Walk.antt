@@ -5,13 +5,12 @@ use mathlib.Core.Path.{_≡_, refl, sym, _∙_}
 use native.Mathlib.Nat.{pow-suc}
 use native.Mathlib.Omega.{arith}
 use Prim.Native.Nat.{ℕ, zero, suc, _+_, _*_, _^_, _≤_, _<_}
-use lib.ListN.{getD, set, replicate, length-set}
-use lib.Seq.{ext-getD, getD-set-same, getD-set-other}
+use lib.ListN.{set, replicate}
 use Rattle.base.specs.Choice.{pick, same-or-not, le-or-lt}
 use Rattle.base.specs.Sets.{has, put, cut, lowest}
 use Rattle.base.specs.SetLaws.{has-none, has-put, has-put-other, has-cut, has-cut-other, put-under, same-members}
 use Rattle.base.specs.LowestLaws.{lowest-is}
-use Rattle.base.specs.Lists.{build, build-length, build-at, build-same}
+use Rattle.base.specs.Lists.{build, build-same, build-set}
 use Rattle.online.specs.Servers.{across, set-of}
 use Rattle.online.specs.ServerLaws.{across-le, across-same, across-add, across-const, across-at, at, at-same, at-other, has-set}
 use Rattle.online.specs.StartLaws.{build-const}
@@ -62,18 +61,6 @@ module _ {A : Type 0} (none : A) where
 
 -- ---- a list
 
--- a built list with one value set
-build-set : (n y : ℕ) (f g : ℕ → ℕ) → ((k : ℕ) → k ≢ y → g k ≡ f k) → set (build n f) y (g y) ≡ build n g
-build-set n y f g d =
-    ext-getD 0 (set (build n f) y (g y)) (build n g) (length-set (build n f) y (g y) ∙ build-length n f ∙ sym (build-length n g))
-    (λ k h.
-    let l : k < n = omega (arith, length-set (build n f) y (g y), build-length n f) in
-    go k l (same-or-not k y) ∙ sym (build-at n g k 0 l))
-  where
-    go : (k : ℕ) → k < n → (k ≡ y) ⊎ (k ≢ y) → getD (set (build n f) y (g y)) k 0 ≡ g k
-    go k l (inl z) = rw z (getD-set-same (build n f) y (g y) 0 (omega (arith, build-length n f)))
-    go k l (inr z) = getD-set-other (build n f) y k (g y) 0 z ∙ build-at n f k 0 l ∙ sym (d k z)
-
 -- at first it has zeros
 pub list-first : (n left : ℕ) (f : ℕ → ℕ) → ((y : ℕ) → has left y ≡ false → f y ≡ 0) → replicate n 0 ≡ build n (given 0 left f)
 list-first n left f h =
@@ -82,7 +69,7 @@ list-first n left f h =
 -- a server is taken
 pub list-next : (n left : ℕ) (f : ℕ → ℕ) (y : ℕ) → set (build n (given 0 left f)) y (f y) ≡ build n (given 0 (cut left y) f)
 list-next n left f y =
-    rw (← given-cut 0 left f y) (build-set n y (given 0 left f) (given 0 (cut left y) f) (λ k d. given-other 0 left f y k d))
+    rw (← given-cut 0 left f y) (build-set n y (given 0 (cut left y) f y) (given 0 left f) (given 0 (cut left y) f) refl (λ k d. given-other 0 left f y k d))
 
 -- in the end it has them all
 pub list-last : (n : ℕ) (f : ℕ → ℕ) → build n (given 0 0 f) ≡ build n f

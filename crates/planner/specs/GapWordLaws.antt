@@ -6,11 +6,11 @@ use mathlib.Core.Path.{_≡_, refl, sym, _∙_}
 use native.Mathlib.Omega.{arith}
 use Prim.Native.Nat.{ℕ, suc, pred, _-_, _≤_, _<_}
 use lib.Dec.{ltb, eqb}
-use lib.ListN.{length, getD, set, replicate, length-set, length-replicate, getD-replicate}
-use lib.Seq.{getD-set-same, getD-set-other, ext-getD}
+use lib.ListN.{length, getD, set, replicate, length-replicate, getD-replicate}
+use lib.Seq.{ext-getD}
 use borrow.Author.Tests.{lt-ltb, le-ltb, le-leb, lt-leb}
-use Rattle.base.specs.Choice.{pick, le-or-lt, same-or-not}
-use Rattle.base.specs.Lists.{build, build-length, build-at, build-same}
+use Rattle.base.specs.Choice.{pick, le-or-lt}
+use Rattle.base.specs.Lists.{build, build-length, build-at, build-same, build-set}
 use Rattle.model.specs.Marking.{Mark, K, S, keeps}
 use Rattle.planner.specs.HolderWords.{kept-step, kept-word, or-server, holders-word, gap-word, marking}
 
@@ -22,21 +22,6 @@ keeps-letter letters i = go (eqb (getD letters i 0) 75)
     go : (b : Bool) → keeps (pick b K S) ≡ b
     go true = refl
     go false = refl
-
--- a built list with one value set
-build-set : (n i v : ℕ) (f g : ℕ → ℕ) → i < n → g i ≡ v → ((k : ℕ) → k ≢ i → f k ≡ g k) → set (build n f) i v ≡ build n g
-build-set n i v f g h e same =
-    ext-getD 0 (set (build n f) i v) (build n g) (simp length-set (build-length n f ∙ sym (build-length n g))) each
-  where
-    each : (k : ℕ) → k < length (set (build n f) i v) → getD (set (build n f) i v) k 0 ≡ getD (build n g) k 0
-    each k l = go (same-or-not k i)
-      where
-        below : k < n
-        below = omega (arith, length-set (build n f) i v, build-length n f)
-
-        go : (k ≡ i) ⊎ (k ≢ i) → getD (set (build n f) i v) k 0 ≡ getD (build n g) k 0
-        go (inl z) = rw z (getD-set-same (build n f) i v 0 (omega (arith, build-length n f)) ∙ sym (build-at n g i 0 h ∙ e))
-        go (inr z) = getD-set-other (build n f) i k v 0 z ∙ build-at n f k 0 below ∙ same k z ∙ sym (build-at n g k 0 below)
 
 module _ (s : ℕ → ℕ) (m : ℕ → Mark) (n : ℕ) where
   -- the words of the gaps above i
@@ -77,7 +62,7 @@ module _ (s : ℕ → ℕ) (m : ℕ → Mark) (n : ℕ) where
       → set (build size (words-above i)) i (or-server (kept-word s m (suc (i - 1)) (n - (i - 1))) (s (i - 1))) ≡ build size (words-above (i - 1))
   unfolding words-above gap-word holders-word
   words-back size i a b l =
-      build-set size i (or-server (kept-word s m (suc (i - 1)) (n - (i - 1))) (s (i - 1))) (words-above i) (words-above (i - 1)) (omega arith) here (λ k d. there k d (le-or-lt k (i - 1)))
+      build-set size i (or-server (kept-word s m (suc (i - 1)) (n - (i - 1))) (s (i - 1))) (words-above i) (words-above (i - 1)) here (λ k d. sym (there k d (le-or-lt k (i - 1))))
     where
       here : words-above (i - 1) i ≡ or-server (kept-word s m (suc (i - 1)) (n - (i - 1))) (s (i - 1))
       here =

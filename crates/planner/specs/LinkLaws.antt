@@ -1,13 +1,11 @@
 -- The list of the most recent request at each server, and the list of previous requests, as they are filled.
 use mathlib.Core.List.{List, _++_}
-use mathlib.Core.Logic.{_⊎_, inl, inr, _≢_}
 use mathlib.Core.Path.{_≡_, refl, sym, ap, _∙_}
 use native.Mathlib.Omega.{arith}
 use Prim.Native.Nat.{ℕ, suc, _<_}
-use lib.ListN.{getD, length, drop, set, replicate, length-set, length-replicate, getD-replicate}
-use lib.Seq.{ext-getD, getD-set-same, getD-set-other}
-use Rattle.base.specs.Choice.{same-or-not}
-use Rattle.base.specs.Lists.{build, build-length, build-at}
+use lib.ListN.{length, drop, set, replicate, length-replicate, getD-replicate}
+use lib.Seq.{ext-getD}
+use Rattle.base.specs.Lists.{build, build-length, build-at, build-set}
 use Rattle.base.specs.LentLaws.{fill-next}
 use Rattle.model.specs.Requests.{latest}
 use Rattle.model.specs.RequestLaws.{latest-hit, latest-miss}
@@ -21,18 +19,6 @@ replicate-build n v =
     (λ i h.
     let l : i < n = omega (arith, length-replicate n v) in
     getD-replicate n i v 0 l ∙ sym (build-at n (λ i. v) i 0 l))
-
--- one value changed
-pub build-set : (n : ℕ) (f g : ℕ → ℕ) (y v : ℕ) → g y ≡ v → ((k : ℕ) → y ≢ k → g k ≡ f k) → set (build n f) y v ≡ build n g
-build-set n f g y v e d =
-    ext-getD 0 (set (build n f) y v) (build n g) (length-set (build n f) y v ∙ build-length n f ∙ sym (build-length n g))
-    (λ k h.
-    let l : k < n = omega (arith, length-set (build n f) y v, build-length n f) in
-    go k l (same-or-not y k) ∙ sym (build-at n g k 0 l))
-  where
-    go : (k : ℕ) → k < n → (y ≡ k) ⊎ (y ≢ k) → getD (set (build n f) y v) k 0 ≡ g k
-    go k l (inl z) = rw (← z) (getD-set-same (build n f) y v 0 (omega (arith, build-length n f)) ∙ sym e)
-    go k l (inr z) = getD-set-other (build n f) y k v 0 (λ w. z (sym w)) ∙ build-at n f k 0 l ∙ sym (d k z)
 
 module _ (s : ℕ → ℕ) where
   -- the most recent of the first i requests at each of 64 servers
@@ -53,8 +39,8 @@ module _ (s : ℕ → ℕ) where
   pub recents-next : (i : ℕ) → set (recents i) (s i) i ≡ recents (suc i)
   unfolding recents index
   recents-next i =
-      build-set 64 (λ y. index (latest s y i)) (λ y. index (latest s y (suc i))) (s i) i
-      (ap index (latest-hit s (s i) i refl)) (λ k d. ap index (latest-miss s k i d))
+      build-set 64 (s i) i (λ y. index (latest s y i)) (λ y. index (latest s y (suc i)))
+      (ap index (latest-hit s (s i) i refl)) (λ k d. ap index (latest-miss s k i (λ z. d (sym z))))
 
   -- the previous requests of the first i, at the front of a list
   unfoldable pub links-front : ℕ → List ℕ → List ℕ
