@@ -19,7 +19,7 @@ pub struct Answer {
 }
 
 // An accepted call's answer.
-pub fn accepted(value: u64, more: u64) -> Answer
+pub(crate) fn accepted(value: u64, more: u64) -> Answer
     ensures { λ r. ⌜ r ≡ accepted value more ⌝ }
 {
     Answer {
@@ -37,7 +37,7 @@ fn word(x: u8) -> u32
 }
 
 // A refused call's answer.
-pub fn refused(refusal: Refusal) -> Answer
+pub(crate) fn refused(refusal: Refusal) -> Answer
     ensures { λ r. ⌜ r ≡ refused refusal ⌝ }
 {
     Answer {
