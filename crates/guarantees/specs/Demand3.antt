@@ -22,7 +22,6 @@ use Rattle.model.specs.PlanLaws.{plan-best}
 use Rattle.model.specs.Checking.{schedule-conditions}
 use Rattle.model.specs.CheckingLaws.{flat-accepted, flat-cost}
 use Rattle.model.specs.RowForm.{flat}
-use Rattle.checker.specs.declared.Checked.{Checked}
 use Rattle.checker.specs.declared.Checked.the-variants as answer
 use Rattle.checker.specs.Answers.{check-conditions, check-verdict-of, checked, check-answer}
 use Rattle.planner.specs.declared.Planned.the-variants as planner

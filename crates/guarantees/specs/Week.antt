@@ -14,13 +14,12 @@ use Rattle.log.specs.Contents.{contents, encode}
 use Rattle.model.specs.Requests.{Requests, requests}
 use Rattle.model.specs.RowForm.{flat}
 use Rattle.model.specs.Sums.{total}
-use Rattle.model.specs.Marking.{cost}
+use Rattle.model.specs.Marking.{K, S, cost}
 use Rattle.model.specs.Plan.{markings, plan, plan-cost, plan-rows}
 use Rattle.checker.specs.declared.Checked.{Checked}
 use Rattle.checker.specs.declared.Checked.the-variants as answer
 use Rattle.checker.specs.Answers.{check-answer}
 use Rattle.planner.specs.Answers.{letter}
-use Rattle.report.specs.Replies.{outcome-letter}
 use Rattle.online.specs.declared.Cache.{Cache}
 use Rattle.online.specs.declared.ScanOutcome.{ScanOutcome}
 use Rattle.online.specs.declared.ScanOutcome.the-variants as scan
@@ -66,6 +65,12 @@ answer-numbers (answer.Refused r) = r .number ∷ r .place ∷ 0 ∷ []
 unfoldable pub requests-given : Given → Requests
 requests-given g = requests (g .home) (g .seconds) (g .servers)
 
+-- the letter of a scan's answer; 0 for a refusal
+unfoldable pub live-letter : ScanOutcome → ℕ
+live-letter scan.Kept = letter K
+live-letter (scan.Sent x) = letter S
+live-letter (scan.Refused r) = 0
+
 -- the least cost of the first 0, 1, 2, .. requests
 unfoldable pub least-so-far : Given → List ℕ
 least-so-far g = build (suc (length (g .seconds))) (λ k. plan-cost (prices-of (g .«class»)) (requests-given g) k)
@@ -87,7 +92,7 @@ costs-from c [] xs = running c ∷ []
 costs-from c (t ∷ ts) [] = running c ∷ []
 
 unfoldable pub letters-from : Cache → List ℕ → List ℕ → List ℕ
-letters-from c (t ∷ ts) (x ∷ xs) = let a = scanned c t x in outcome-letter (a .outcome) ∷ letters-from (a .cache) ts xs
+letters-from c (t ∷ ts) (x ∷ xs) = let a = scanned c t x in live-letter (a .outcome) ∷ letters-from (a .cache) ts xs
 letters-from c [] xs = []
 letters-from c (t ∷ ts) [] = []
 

@@ -28,8 +28,8 @@ server-faults c y =
 unfoldable pub server-broken : Cache → ℕ → Bool
 server-broken c y = any-of (server-faults c y)
 
--- what can be wrong with a state: its class, its count or its second is none that there is; the last server is none of the count's, has no
--- copy, or was not used at the last second; more than 2,048 requests, more transfers than requests, more than 256,000,000 held; a server at fault
+-- what can be wrong with a state: no such class, a count that is not 1 to 64, a second past 4,000,000; the last server not below the count, without
+-- a copy, or not used at the last second; more than 2,048 requests, more transfers than requests, more than 256,000,000 held; a server at fault
 abbrev pub faults : Cache → List Bool
 faults c =
     ltb 7 (c .«class»)
