@@ -1,70 +1,29 @@
 // The online cache: a state goes in and comes back by value.
 ghost use mathlib.Core.Path.{_≡_};
-ghost use Rattle.online.specs.Answers.{started, scanned, closed-answer};
-ghost use Rattle.exports.specs.Answers.{cache-of, state-of, of-start, of-scan, of-close, start-answer, scan-answer, close-answer};
+ghost use Rattle.online.specs.Answers.{started, scanned, running-answer, closed-answer};
+ghost use Rattle.exports.specs.Answers.{given, of-start, of-scan, running-of, of-running, of-close, start-answer, scan-answer, close-answer};
 use crate::Answer;
 use crate::accepted;
 use crate::refused;
+use log::Setup;
 use online::Cache;
 use online::CloseOutcome;
+use online::RunningCost;
 use online::ScanOutcome;
 use online::StartOutcome;
 
-// The state, field by field as in `online`.
-#[repr(C)]
-pub struct CacheState {
-    pub class: u8,
-    pub server_count: u8,
-    pub last: u16,
-    pub second: u32,
-    pub last_use: [u32; 64],
-    pub holders: u64,
-    pub requests: u32,
-    pub transfers: u32,
-    pub held: u32,
-    pub closed: bool,
-}
-
 #[repr(C)]
 pub struct CacheAnswer {
-    pub cache: CacheState,
+    pub cache: Cache,
     pub answer: Answer,
 }
 
-fn cache_of(state: CacheState) -> Cache
-    ensures { λ r. ⌜ r ≡ cache-of state ⌝ }
-{
-    let last_use = state.last_use;
-    Cache {
-        class: state.class,
-        server_count: state.server_count,
-        last: state.last,
-        second: state.second,
-        last_use,
-        holders: state.holders,
-        requests: state.requests,
-        transfers: state.transfers,
-        held: state.held,
-        closed: state.closed,
-    }
-}
-
-fn state_of(cache: Cache) -> CacheState
-    ensures { λ r. ⌜ r ≡ state-of cache ⌝ }
-{
-    let last_use = cache.last_use;
-    CacheState {
-        class: cache.class,
-        server_count: cache.server_count,
-        last: cache.last,
-        second: cache.second,
-        last_use,
-        holders: cache.holders,
-        requests: cache.requests,
-        transfers: cache.transfers,
-        held: cache.held,
-        closed: cache.closed,
-    }
+// A scan's answer has the running cost after it too, 0 where it is refused.
+#[repr(C)]
+pub struct ScanAnswer {
+    pub cache: Cache,
+    pub answer: Answer,
+    pub running: u64,
 }
 
 fn of_start(outcome: StartOutcome) -> Answer
@@ -78,13 +37,18 @@ fn of_start(outcome: StartOutcome) -> Answer
 
 #[no_mangle]
 pub extern "C" fn caching_start(class: u8, server_count: u8, home: u8) -> CacheAnswer
-    ensures { λ r. ⌜ r ≡ start-answer (started class «server_count» home) ⌝ }
+    ensures { λ r. ⌜ r ≡ start-answer (started (given class «server_count» home)) ⌝ }
 {
-    let started = Cache::start(class, server_count, home);
+    let setup = Setup {
+        class,
+        server_count,
+        home,
+    };
+    let started = Cache::start(setup);
     let cache = started.cache;
     let outcome = started.outcome;
     CacheAnswer {
-        cache: state_of(cache),
+        cache,
         answer: of_start(outcome),
     }
 }
@@ -100,26 +64,53 @@ fn of_scan(outcome: ScanOutcome) -> Answer
     ensures { λ r. ⌜ r ≡ of-scan outcome ⌝ }
 {
     match outcome {
-        ScanOutcome::Kept => accepted(0, 0),
-        ScanOutcome::Sent(source) => accepted(1, long(source)),
+        ScanOutcome::Kept { cost: _ } => accepted(0, 0),
+        ScanOutcome::Sent { source, cost: _ } => accepted(1, long(source)),
         ScanOutcome::Refused(r) => refused(r),
     }
 }
 
-#[no_mangle]
-pub extern "C" fn caching_scan(cache: CacheState, second: u32, server: u16) -> CacheAnswer
-    ensures { λ r. ⌜ r ≡ scan-answer (scanned (cache-of cache) second server) ⌝ }
+fn running_of(outcome: ScanOutcome) -> u64
+    ensures { λ r. ⌜ r ≡ running-of outcome ⌝ }
 {
-    let scanned = cache_of(cache).scan(second, server);
+    match outcome {
+        ScanOutcome::Kept { cost } => cost,
+        ScanOutcome::Sent { source: _, cost } => cost,
+        ScanOutcome::Refused(_) => 0,
+    }
+}
+
+#[no_mangle]
+pub extern "C" fn caching_scan(cache: Cache, second: u32, server: u16) -> ScanAnswer
+    ensures { λ r. ⌜ r ≡ scan-answer (scanned cache second server) ⌝ }
+{
+    let scanned = cache.scan(second, server);
     let next = scanned.cache;
     let outcome = scanned.outcome;
-    CacheAnswer {
-        cache: state_of(next),
+    ScanAnswer {
+        cache: next,
         answer: of_scan(outcome),
+        running: running_of(outcome),
+    }
+}
+
+fn of_running(outcome: RunningCost) -> Answer
+    ensures { λ r. ⌜ r ≡ of-running outcome ⌝ }
+{
+    match outcome {
+        RunningCost::Cost(cost) => accepted(cost, 0),
+        RunningCost::Refused(r) => refused(r),
     }
 }
 
 // The answer's value is the running cost.
+#[no_mangle]
+pub extern "C" fn caching_running(cache: Cache) -> Answer
+    ensures { λ r. ⌜ r ≡ of-running (running-answer cache) ⌝ }
+{
+    of_running(cache.running())
+}
+
 fn of_close(outcome: CloseOutcome) -> Answer
     ensures { λ r. ⌜ r ≡ of-close outcome ⌝ }
 {
@@ -129,15 +120,16 @@ fn of_close(outcome: CloseOutcome) -> Answer
     }
 }
 
+// The answer's value is the running cost.
 #[no_mangle]
-pub extern "C" fn caching_close(cache: CacheState) -> CacheAnswer
-    ensures { λ r. ⌜ r ≡ close-answer (closed-answer (cache-of cache)) ⌝ }
+pub extern "C" fn caching_close(cache: Cache) -> CacheAnswer
+    ensures { λ r. ⌜ r ≡ close-answer (closed-answer cache) ⌝ }
 {
-    let closed = cache_of(cache).close();
+    let closed = cache.close();
     let next = closed.cache;
     let outcome = closed.outcome;
     CacheAnswer {
-        cache: state_of(next),
+        cache: next,
         answer: of_close(outcome),
     }
 }

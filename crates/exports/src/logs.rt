@@ -6,7 +6,7 @@ ghost use Rattle.log.specs.Sum.{sum-of};
 ghost use Rattle.log.specs.Fields.{seconds-of, servers-of};
 ghost use Rattle.log.specs.Contents.{contents, encode};
 ghost use Rattle.log.specs.Answers.{read-verdict, decoded, write-verdict, written};
-ghost use Rattle.exports.specs.Answers.{of-read, of-write, read-answer, header-of};
+ghost use Rattle.exports.specs.Answers.{of-read, of-write, read-answer};
 use crate::Answer;
 use crate::accepted;
 use crate::refused;
@@ -14,19 +14,10 @@ use log::Header;
 use log::ReadOutcome;
 use log::Written;
 
-// What a log says of its file.
-#[repr(C)]
-pub struct FileHeader {
-    pub class: u8,
-    pub server_count: u8,
-    pub home: u8,
-    pub id: [u8; 16],
-}
-
 // The reader's answer: its value is the number of requests.
 #[repr(C)]
 pub struct ReadAnswer {
-    pub header: FileHeader,
+    pub header: Header,
     pub answer: Answer,
 }
 
@@ -59,16 +50,10 @@ pub extern "C" fn caching_read(log: &[u8], seconds: &mut [u32], servers: &mut [u
     ensures { λ _. ⌜ now (servers .exit) ≡ lent (read-verdict (now (log .entry)) (length (now (seconds .entry))) (length (now (servers .entry)))) (servers-of (now (log .entry))) (now (servers .entry)) ⌝ }
 {
     let d = log::read(log, seconds, servers);
-    let h = d.header;
-    let id = h.id;
+    let header = d.header;
     let outcome = d.outcome;
     ReadAnswer {
-        header: FileHeader {
-            class: h.class,
-            server_count: h.server_count,
-            home: h.home,
-            id,
-        },
+        header,
         answer: of_read(outcome),
     }
 }
@@ -85,20 +70,13 @@ fn of_write(outcome: Written) -> Answer
 // The answer's value is the log's length.
 #[no_mangle]
 pub extern "C" fn caching_write(
-    header: FileHeader,
+    header: Header,
     seconds: &[u32],
     servers: &[u16],
     log: &mut [u8],
 ) -> Answer
-    ensures { λ r. ⌜ r ≡ of-write (written (write-verdict (contents (header-of header) (now (seconds .entry)) (now (servers .entry))) (length (now (log .entry)))) (contents (header-of header) (now (seconds .entry)) (now (servers .entry)))) ⌝ }
-    ensures { λ _. ⌜ now (log .exit) ≡ lent (write-verdict (contents (header-of header) (now (seconds .entry)) (now (servers .entry))) (length (now (log .entry)))) (encode (contents (header-of header) (now (seconds .entry)) (now (servers .entry)))) (now (log .entry)) ⌝ }
+    ensures { λ r. ⌜ r ≡ of-write (written (write-verdict (contents header (now (seconds .entry)) (now (servers .entry))) (length (now (log .entry)))) (contents header (now (seconds .entry)) (now (servers .entry)))) ⌝ }
+    ensures { λ _. ⌜ now (log .exit) ≡ lent (write-verdict (contents header (now (seconds .entry)) (now (servers .entry))) (length (now (log .entry)))) (encode (contents header (now (seconds .entry)) (now (servers .entry)))) (now (log .entry)) ⌝ }
 {
-    let id = header.id;
-    let h = Header {
-        class: header.class,
-        server_count: header.server_count,
-        home: header.home,
-        id,
-    };
-    of_write(log::write(h, seconds, servers, log))
+    of_write(log::write(header, seconds, servers, log))
 }

@@ -15,6 +15,7 @@ use Rattle.base.specs.Refusals.{Condition, first, short}
 use Rattle.base.specs.RefusalLaws.{nth, First, first-refused, first-passed, first-append, otherwise-passed}
 use Rattle.base.specs.Lent.{lent}
 use Rattle.base.specs.Lists.{build-length}
+use Rattle.log.specs.declared.Setup.{Setup}
 use Rattle.log.specs.Fields.{request-count, seconds-of, servers-of, length-for}
 use Rattle.log.specs.Conditions.{setup-conditions, log-conditions}
 use Rattle.log.specs.Contents.{Contents, contents-conditions, encode}
@@ -28,9 +29,9 @@ use Rattle.report.specs.Answers.{room-verdict}
 use Rattle.report.specs.Sheet.{sheet-of, sheet-verdict}
 use Rattle.report.specs.Text.{refusal-text}
 use Rattle.online.specs.declared.Cache.{Cache}
-use Rattle.online.specs.Conditions.{scan-conditions, close-conditions}
+use Rattle.online.specs.Conditions.{scan-conditions, running-conditions, close-conditions}
 use Rattle.online.specs.Rules.{zeros}
-use Rattle.online.specs.Answers.{start-verdict, scan-verdict, close-verdict, started-by, started, scanned-by, scanned, closed-by, closed-answer}
+use Rattle.online.specs.Answers.{start-verdict, scan-verdict, running-verdict, close-verdict, started-by, started, scanned-by, scanned, closed-by, closed-answer}
 
 -- a verdict is that of a list of conditions
 pub record Decided (cs : List Condition) (v : Verdict) : Type 0 where
@@ -137,13 +138,17 @@ least-left log costs =
     room e = first-passed outputs .0 (otherwise-passed (first (log-conditions log)) (first outputs) (sym (first-append (log-conditions log) outputs) ∙ e) .1)
 
 -- the online cache's calls; they are lent nothing
-pub start-decided : (class′ count home : ℕ) → Decided (setup-conditions class′ count home) (start-verdict class′ count home)
+pub start-decided : (s : Setup) → Decided (setup-conditions s) (start-verdict s)
 unfolding start-verdict
-start-decided class′ count home = decided _
+start-decided s = decided _
 
 pub scan-decided : (c : Cache) (second server : ℕ) → Decided (scan-conditions c second server) (scan-verdict c second server)
 unfolding scan-verdict
 scan-decided c second server = decided _
+
+pub running-decided : (c : Cache) → Decided (running-conditions c) (running-verdict c)
+unfolding running-verdict
+running-decided c = decided _
 
 pub close-decided : (c : Cache) → Decided (close-conditions c) (close-verdict c)
 unfolding close-verdict
@@ -185,6 +190,6 @@ pub close-unchanged : (c : Cache) (r : Refusal) → close-verdict c ≡ Refused 
 unfolding closed-answer closed-by
 close-unchanged c r e = ap (λ (v : Verdict). closed-by v c .cache) e
 
-pub start-zeros : (class′ count home : ℕ) (r : Refusal) → start-verdict class′ count home ≡ Refused r → started class′ count home .cache ≡ zeros
+pub start-zeros : (s : Setup) (r : Refusal) → start-verdict s ≡ Refused r → started s .cache ≡ zeros
 unfolding started started-by
-start-zeros class′ count home r e = ap (λ (v : Verdict). started-by v class′ count home .cache) e
+start-zeros s r e = ap (λ (v : Verdict). started-by v s .cache) e

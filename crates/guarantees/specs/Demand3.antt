@@ -9,6 +9,7 @@ use Rattle.base.specs.declared.Verdict.the-variants.{Passed}
 use Rattle.base.specs.Refusals.{first}
 use Rattle.base.specs.RefusalLaws.{first-append}
 use Rattle.base.specs.Lists.{build-at}
+use Rattle.log.specs.declared.Setup.{Setup}
 use Rattle.log.specs.Fields.{request-count, server-count}
 use Rattle.log.specs.Conditions.{Accepted, verdict-of, log-conditions}
 use Rattle.log.specs.AcceptedLaws.{accepted-sound}
@@ -27,9 +28,10 @@ use Rattle.checker.specs.Answers.{check-conditions, check-verdict-of, checked, 
 use Rattle.planner.specs.declared.Planned.the-variants as planner
 use Rattle.planner.specs.Answers.{planned-rows, rows-of-plan, plan-verdict, planned, least-costs}
 use Rattle.online.specs.declared.Cache.{Cache}
-use Rattle.online.specs.Answers.{start-verdict, scan-verdict, close-verdict, scanned, closed-answer}
-use Rattle.online.specs.Calls.{Call, scan, close, verdict, after}
-use Rattle.online.specs.Claim.{Claim, claim}
+use Rattle.online.specs.Answers.{start-verdict, scan-verdict, close-verdict, started-by, started, scanned, closed-answer}
+use Rattle.online.specs.Passed.{start-passed}
+use Rattle.bounds.specs.Calls.{Call, scan, close, verdict, after}
+use Rattle.bounds.specs.Claim.{Claim, claim}
 use Rattle.guarantees.specs.Optimality.{Optimal, optimal}
 
 -- the planner's answer for an accepted log cut to its first k requests
@@ -139,5 +141,6 @@ unfolding after verdict
 close-call c = (refl, refl)
 
 -- THE ONLINE HALF: for every start that is not refused and every list of scan and close calls, refused ones included
-pub online-within-three : (class′ count home : ℕ) → start-verdict class′ count home ≡ Passed → (calls : List Call) → Claim class′ count home calls
-online-within-three = claim
+pub online-within-three : (s : Setup) → start-verdict s ≡ Passed → (calls : List Call) → Claim s (started s .cache) calls
+unfolding started started-by
+online-within-three s e calls = rw e (claim s (start-passed s .0 e) calls)

@@ -9,6 +9,7 @@ use Rattle.base.specs.Lists.{build}
 use Rattle.base.specs.declared.Verdict.{Verdict}
 use Rattle.base.specs.declared.Verdict.the-variants.{Passed, Refused}
 use Rattle.prices.specs.Prices.{prices-of}
+use Rattle.log.specs.declared.Setup.{Setup}
 use Rattle.log.specs.Conditions.{verdict-of}
 use Rattle.log.specs.Contents.{contents, encode}
 use Rattle.model.specs.Requests.{Requests, requests}
@@ -26,11 +27,9 @@ use Rattle.online.specs.declared.ScanOutcome.the-variants as scan
 use Rattle.online.specs.Rules.{running}
 use Rattle.online.specs.Answers.{started, scanned}
 
--- the requests of a week: class, server count, home, seconds and servers
+-- the requests of a week: what its start is given, seconds and servers
 pub record Given : Type 0 where
-  pub «class» : ℕ
-  pub count : ℕ
-  pub home : ℕ
+  pub setup : Setup
   pub seconds : List ℕ
   pub servers : List ℕ
 
@@ -63,27 +62,27 @@ answer-numbers (answer.Refused r) = r .number ∷ r .place ∷ 0 ∷ []
 
 -- the requests of a week
 unfoldable pub requests-given : Given → Requests
-requests-given g = requests (g .home) (g .seconds) (g .servers)
+requests-given g = requests (g .setup .home) (g .seconds) (g .servers)
 
 -- the letter of a scan's answer; 0 for a refusal
 unfoldable pub live-letter : ScanOutcome → ℕ
-live-letter scan.Kept = letter K
-live-letter (scan.Sent x) = letter S
+live-letter (scan.Kept cost) = letter K
+live-letter (scan.Sent x cost) = letter S
 live-letter (scan.Refused r) = 0
 
 -- the least cost of the first 0, 1, 2, .. requests
 unfoldable pub least-so-far : Given → List ℕ
-least-so-far g = build (suc (length (g .seconds))) (λ k. plan-cost (prices-of (g .«class»)) (requests-given g) k)
+least-so-far g = build (suc (length (g .seconds))) (λ k. plan-cost (prices-of (g .setup .«class»)) (requests-given g) k)
 
 -- the marks of the plan over the whole week
 unfoldable pub plan-letters : Given → List ℕ
 plan-letters g =
-    let m = plan (prices-of (g .«class»)) (requests-given g) (length (g .seconds)) in
+    let m = plan (prices-of (g .setup .«class»)) (requests-given g) (length (g .seconds)) in
     build (length (g .seconds)) (λ k. letter (m (suc k)))
 
 -- the numbers of the plan's rows
 unfoldable pub plan-numbers : Given → List ℕ
-plan-numbers g = flat (plan-rows (prices-of (g .«class»)) (requests-given g) (g .count) (length (g .seconds)))
+plan-numbers g = flat (plan-rows (prices-of (g .setup .«class»)) (requests-given g) (g .setup .«server_count») (length (g .seconds)))
 
 -- the running cost of a state and after each request served from it; the mark of each request
 unfoldable pub costs-from : Cache → List ℕ → List ℕ → List ℕ
@@ -96,29 +95,26 @@ letters-from c (t ∷ ts) (x ∷ xs) = let a = scanned c t x in live-letter (a .
 letters-from c [] xs = []
 letters-from c (t ∷ ts) [] = []
 
--- the state of a start
-unfoldable pub opened : Given → Cache
-opened g = started (g .«class») (g .count) (g .home) .cache
-
 -- the log of a week, with an id of zeros
 unfoldable pub log-of : Given → List ℕ
 log-of g =
-    encode (contents (record { «class» = g .«class»; «server_count» = g .count; home = g .home; id = replicate 16 0 }) (g .seconds) (g .servers))
+    let s = g .setup in
+    encode (contents (record { «class» = s .«class»; «server_count» = s .«server_count»; home = s .home; id = replicate 16 0 }) (g .seconds) (g .servers))
 
 -- what the definitions say of a week is what 01 says
 unfoldable pub right : Week → Bool
 right (planned g least costs marks live rows) =
     both (same (least-so-far g) least)
-    (both (same (costs-from (opened g) (g .seconds) (g .servers)) costs)
+    (both (same (costs-from (started (g .setup) .cache) (g .seconds) (g .servers)) costs)
     (both (same (plan-letters g) marks)
-    (both (same (letters-from (opened g) (g .seconds) (g .servers)) live)
+    (both (same (letters-from (started (g .setup) .cache) (g .seconds) (g .servers)) live)
     (same (plan-numbers g) rows))))
 right (checked g rows number place c) = same (answer-numbers (check-answer (log-of g) rows)) (number ∷ place ∷ c ∷ [])
 right (logged g number place) = same (as-numbers (verdict-of (log-of g))) (number ∷ place ∷ [])
 right (tied g c n) =
     let q = requests-given g in
     let k = length (g .seconds) in
-    eqb (total (λ m. pick (eqb (cost (prices-of (g .«class»)) q m k) c) 1 0) (markings q k)) n
+    eqb (total (λ m. pick (eqb (cost (prices-of (g .setup .«class»)) q m k) c) 1 0) (markings q k)) n
 
 -- every week of a table is right
 unfoldable pub all-right : List Week → Bool

@@ -26,7 +26,7 @@ use Rattle.online.specs.Servers.{across, set-of, some-server}
 use Rattle.online.specs.Rules.{class-prices, window-of, copy-at, use-at, fresh, lasts, kept, uses, stands as stands-after, next-use, seconds, accept, running}
 use Rattle.online.specs.Conditions.{any-of, server-broken, broken, scan-conditions}
 use Rattle.online.specs.Answers.{start-verdict, started-by, started, scan-verdict, scanned-by, scanned, mark-outcome}
-use Rattle.guarantees.specs.Week.{Given, Week, planned, checked, logged, tied, same, as-numbers, answer-numbers, requests-given, live-letter, least-so-far, plan-letters, plan-numbers, costs-from, letters-from, opened, log-of, right, all-right}
+use Rattle.guarantees.specs.Week.{Given, Week, planned, checked, logged, tied, same, as-numbers, answer-numbers, requests-given, live-letter, least-so-far, plan-letters, plan-numbers, costs-from, letters-from, log-of, right, all-right}
 
 -- K and S
 abbrev k : ℕ
@@ -36,7 +36,8 @@ abbrev s : ℕ
 s = 83
 
 abbrev given : ℕ → ℕ → List ℕ → List ℕ → Given
-given class′ count ts xs = record { «class» = class′; count = count; home = 0; seconds = ts; servers = xs }
+given class′ count ts xs =
+    record { setup = record { «class» = class′; «server_count» = count; home = 0 }; seconds = ts; servers = xs }
 
 -- A no requests; B 002's example times ten; C, and that two other markings cost the same; D; E; F class 6
 -- G a cycle with no copy behind it, and with one; H the last second; I equal seconds
@@ -73,7 +74,7 @@ own-weeks =
 
 -- every line of the table holds
 pub weeks-right : all-right (weeks ++ own-weeks) ≡ true
-unfolding weeks own-weeks all-right right same as-numbers answer-numbers requests-in prices-in check-conditions check-verdict-of checked-by check-answer requests-given letter live-letter least-so-far plan-letters plan-numbers costs-from letters-from opened log-of build first each has put lowest classes prices-of window version class-of server-count home-of request-count requests-offset id-offset total-length written-sum length-for seconds-of servers-of sum-from sum-of setup-conditions header-conditions before request-conditions log-conditions verdict-of head request-bytes requests-bytes body encode sum total requests latest previous length-of is-transfer cost-of reach arrive through reached rounds standing stands numbers flat row-of row-at rows-upto rows-of fits earlier follows keeps some? legal gap begin after spans any covered holds own cost begins-run run-end hold-rows all-holds transfers source rows-from rows put-mark markings first-least least-of plan plan-cost plan-rows row-count misfits misplaced row-conditions backed copy-condition serve-condition schedule-conditions check-cost across set-of some-server class-prices window-of copy-at use-at fresh lasts kept uses stands-after next-use seconds accept running any-of server-broken broken scan-conditions start-verdict started-by started scan-verdict scanned-by scanned mark-outcome
+unfolding weeks own-weeks all-right right same as-numbers answer-numbers requests-in prices-in check-conditions check-verdict-of checked-by check-answer requests-given letter live-letter least-so-far plan-letters plan-numbers costs-from letters-from log-of build first each has put lowest classes prices-of window version class-of server-count home-of request-count requests-offset id-offset total-length written-sum length-for seconds-of servers-of sum-from sum-of setup-conditions header-conditions before request-conditions log-conditions verdict-of head request-bytes requests-bytes body encode sum total requests latest previous length-of is-transfer cost-of reach arrive through reached rounds standing stands numbers flat row-of row-at rows-upto rows-of fits earlier follows keeps some? legal gap begin after spans any covered holds own cost begins-run run-end hold-rows all-holds transfers source rows-from rows put-mark markings first-least least-of plan plan-cost plan-rows row-count misfits misplaced row-conditions backed copy-condition serve-condition schedule-conditions check-cost across set-of some-server class-prices window-of copy-at use-at fresh lasts kept uses stands-after next-use seconds accept running any-of server-broken broken scan-conditions start-verdict started-by started scan-verdict scanned-by scanned mark-outcome
 weeks-right = refl
 
 -- the two windows that 01's 'Prices' names: of class 4 and of class 6

@@ -1,7 +1,7 @@
 -- Acceptance in plain facts: what a log that is not refused says, and what can be written. Assumes nothing.
 use mathlib.Core.Bool.{Bool, true, false, not}
 use mathlib.Core.List.{List, [], _∷_, _++_}
-use mathlib.Core.Logic.{_≢_}
+use mathlib.Core.Logic.{_≢_, _↔_}
 use mathlib.Core.Path.{_≡_, refl, sym, _∙_}
 use Prim.Native.Nat.{ℕ, zero, suc, _+_, _*_, _≤_, _<_}
 use native.Mathlib.Omega.{arith}
@@ -14,17 +14,18 @@ use Rattle.base.specs.RefusalLaws.{first-failed, first-append, otherwise-passed
 use Rattle.base.specs.declared.Verdict.the-variants.{Passed}
 use Rattle.base.specs.Bytes.{byte, le16, le32}
 use Rattle.base.specs.Lists.{build-length, build-at}
-use Rattle.log.specs.Fields.{version, class-of, server-count, home-of, request-count, requests-offset, id-offset, total-length, written-sum, id-of, length-for, seconds-of, servers-of}
+use Rattle.log.specs.declared.Setup.{Setup}
+use Rattle.log.specs.Fields.{version, server-count, setup-of, request-count, requests-offset, id-offset, total-length, written-sum, id-of, length-for, seconds-of, servers-of}
 use Rattle.log.specs.Sum.{sum-of}
 use Rattle.log.specs.Conditions.{setup-conditions, header-conditions, before, request-conditions, log-conditions, verdict-of, Accepted}
-use Rattle.log.specs.Contents.{Contents, contents-conditions}
+use Rattle.log.specs.Contents.{Contents, setup-in, contents-conditions}
 
 -- class, server count and home are in range
-pub record Setup (class′ count home : ℕ) : Type 0 where
-  pub class-most : class′ ≤ 7
-  pub servers-least : 1 ≤ count
-  pub servers-most : count ≤ 64
-  pub home-below : home < count
+pub record Allowed (s : Setup) : Type 0 where
+  pub class-most : s .«class» ≤ 7
+  pub servers-least : 1 ≤ s .«server_count»
+  pub servers-most : s .«server_count» ≤ 64
+  pub home-below : s .home < s .«server_count»
 
 -- request i is in range, and later than the one before
 pub record In-order (count : ℕ) (seconds servers : List ℕ) (i : ℕ) : Type 0 where
@@ -36,7 +37,7 @@ pub record In-order (count : ℕ) (seconds servers : List ℕ) (i : ℕ) : Type 
 -- a log that is as the format says
 pub record Sound (s : List ℕ) : Type 0 where
   pub version-is : version s ≡ 1
-  pub setup : Setup (class-of s) (server-count s) (home-of s)
+  pub setup : Allowed (setup-of s)
   pub zero-is : byte s 5 ≡ 0
   pub requests-most : request-count s ≤ 2048
   pub requests-at : requests-offset s ≡ 40
@@ -48,7 +49,7 @@ pub record Sound (s : List ℕ) : Type 0 where
 
 -- contents that a log can say
 pub record Proper (c : Contents) : Type 0 where
-  pub setup : Setup (c .header .«class») (c .header .«server_count») (c .header .home)
+  pub setup : Allowed (setup-in (c .header))
   pub requests-most : length (c .seconds) ≤ 2048
   pub as-many : length (c .servers) ≡ length (c .seconds)
   pub in-order : (i : ℕ) → i < length (c .seconds) → In-order (c .header .«server_count») (c .seconds) (c .servers) i
@@ -99,14 +100,23 @@ passed-append xs ys p q = first-append xs ys ∙ rw p q
 -- ---- the conditions on a setup and on a request, both ways
 
 -- class, server count and home
-setup-in : (k n h : ℕ) → ltb 7 k ≡ false → either (eqb n 0) (ltb 64 n) ≡ false → leb n h ≡ false → Setup k n h
-setup-in k n h p q r = let range = range-false n 64 q in omega (arith, ltb-false, leb-false)
+allowed : (s : Setup) → ltb 7 (s .«class») ≡ false → either (eqb (s .«server_count») 0) (ltb 64 (s .«server_count»)) ≡ false
+    → leb (s .«server_count») (s .home) ≡ false → Allowed s
+allowed s p q r = let range = range-false (s .«server_count») 64 q in omega (arith, ltb-false, leb-false)
 
-passed-setup : (k n h : ℕ) (cs : List Condition) → Setup k n h → first cs ≡ Passed → first (setup-conditions k n h ++ cs) ≡ Passed
+passed-setup : (s : Setup) (cs : List Condition) → Allowed s → first cs ≡ Passed → first (setup-conditions s ++ cs) ≡ Passed
 unfolding setup-conditions
-passed-setup k n h cs f e =
+passed-setup s cs f e =
     passed-cons _ _ (le-ltb _ _ (f .class-most))
     (passed-cons _ _ (false-range _ _ (f .servers-least) (f .servers-most)) (passed-cons _ _ (lt-leb _ _ (f .home-below)) e))
+
+-- no condition on a setup holds exactly if it is allowed
+pub setup-allowed : (s : Setup) → (first (setup-conditions s) ≡ Passed) ↔ Allowed s
+unfolding setup-conditions
+setup-allowed s = (
+  λ e. let f = first-passed (setup-conditions s) .0 e in allowed s (f 0) (f 1) (f 2),
+  λ a. passed-setup s [] a passed-nil,
+)
 
 -- the first m requests
 module _ (n : ℕ) (seconds servers : List ℕ) (m : ℕ) where
@@ -141,7 +151,7 @@ accepted-sound s a =
     let total : total-length s ≡ length-for (request-count s) = differ-false _ _ at-total in
     record {
       version-is = differ-false _ _ (f 1);
-      setup = setup-in _ _ _ (f 2) (f 3) (f 4);
+      setup = allowed _ (f 2) (f 3) (f 4);
       zero-is = differ-false _ _ (f 5);
       requests-most = ltb-false _ _ (f 6);
       requests-at = differ-false _ _ at-requests;
@@ -159,7 +169,7 @@ sound-accepted s f =
     passed-append (header-conditions s) _
     (passed-cons _ _ (le-ltb (length s) 40 (omega (arith, f .length-is)))
     (passed-cons _ _ (same-false _ _ (f .version-is))
-    (passed-setup _ _ _ _ (f .setup)
+    (passed-setup _ _ (f .setup)
     (passed-cons _ _ (same-false _ _ (f .zero-is))
     (passed-cons _ _ (le-ltb _ _ (f .requests-most))
     (passed-cons _ _ (false-either (same-false _ _ (f .requests-at)) (false-either (same-false _ _ (f .id-at)) (same-false _ _ (f .total-is))))
@@ -176,7 +186,7 @@ writable-proper c w =
     let f = first-passed (contents-conditions c) .0 w in
     let (few, as-many) = either-false _ _ (f 3) in
     record {
-      setup = setup-in _ _ _ (f 0) (f 1) (f 2);
+      setup = allowed _ (f 0) (f 1) (f 2);
       requests-most = ltb-false _ _ few;
       as-many = sym (differ-false _ _ as-many);
       in-order = in-order-of _ _ _ _ (first-passed _ .1 (λ i. f (suc (suc (suc (suc i))))));
@@ -186,7 +196,7 @@ writable-proper c w =
 pub proper-writable : (c : Contents) → Proper c → Writable c
 unfolding contents-conditions setup-conditions
 proper-writable c f =
-    passed-setup _ _ _ _ (f .setup)
+    passed-setup _ _ (f .setup)
     (passed-cons _ _ (false-either (le-ltb _ _ (f .requests-most)) (same-false _ _ (sym (f .as-many))))
     (passed-in-order _ _ _ _ (f .in-order)))
 

@@ -10,13 +10,17 @@ use Rattle.base.specs.Refusals.{Condition, refuse, first, each}
 use Rattle.base.specs.declared.Verdict.{Verdict}
 use Rattle.base.specs.declared.Verdict.the-variants.{Passed}
 use Rattle.base.specs.Bytes.{byte}
-use Rattle.log.specs.Fields.{version, class-of, server-count, home-of, request-count, requests-offset, id-offset, total-length, written-sum, length-for, seconds-of, servers-of}
+use Rattle.log.specs.declared.Setup.{Setup}
+use Rattle.log.specs.Fields.{version, server-count, setup-of, request-count, requests-offset, id-offset, total-length, written-sum, length-for, seconds-of, servers-of}
 use Rattle.log.specs.Sum.{sum-of}
 
 -- 3 asks for a class up to 7, 4 for 1 to 64 servers, 5 for a home among them
-unfoldable pub setup-conditions : ℕ → ℕ → ℕ → List Condition
-setup-conditions class′ count home =
-    refuse 3 0 (ltb 7 class′) ∷ refuse 4 0 (either (eqb count 0) (ltb 64 count)) ∷ refuse 5 0 (leb count home) ∷ []
+unfoldable pub setup-conditions : Setup → List Condition
+setup-conditions s =
+    refuse 3 0 (ltb 7 (s .«class»))
+    ∷ refuse 4 0 (either (eqb (s .«server_count») 0) (ltb 64 (s .«server_count»)))
+    ∷ refuse 5 0 (leb (s .«server_count») (s .home))
+    ∷ []
 
 -- 1 under 40 bytes; 2 version not 1; 3 to 5; 6 byte 5 not zero; 7 request count above 2,048; 8 an offset or the total not as the
 -- format says; 9 file length not the total
@@ -24,7 +28,7 @@ abbrev pub form-conditions : List ℕ → List Condition
 form-conditions s =
     refuse 1 0 (ltb (length s) 40)
     ∷ refuse 2 0 (not (eqb (version s) 1))
-    ∷ (setup-conditions (class-of s) (server-count s) (home-of s)
+    ∷ (setup-conditions (setup-of s)
     ++ (refuse 6 0 (not (eqb (byte s 5) 0))
     ∷ refuse 7 0 (ltb 2048 (request-count s))
     ∷ refuse 8 0

@@ -13,7 +13,7 @@ use Rattle.base.specs.RefusalLaws.{first-append, otherwise, from, from-first, f
 use Rattle.base.specs.declared.Verdict.{Verdict}
 use Rattle.base.specs.declared.Verdict.the-variants.{Passed, Refused}
 use Rattle.log.specs.Conditions.{setup-conditions, request-conditions}
-use Rattle.log.specs.Contents.{Contents, contents-conditions}
+use Rattle.log.specs.Contents.{Contents, setup-in, contents-conditions}
 
 -- 7: more than 2,048 requests, or lists of unequal length
 abbrev pub lengths-condition : ℕ → ℕ → Condition
@@ -22,11 +22,11 @@ lengths-condition n m = refuse 7 0 (either (ltb 2048 n) (not (eqb n m)))
 pub contents-parts : (c : Contents)
     → first (contents-conditions c)
     ≡ otherwise
-    (or-else (from Passed (setup-conditions (c .header .«class») (c .header .«server_count») (c .header .home))) (lengths-condition (length (c .seconds)) (length (c .servers))))
+    (or-else (from Passed (setup-conditions (setup-in (c .header)))) (lengths-condition (length (c .seconds)) (length (c .servers))))
     (first (each (request-conditions (c .header .«server_count») (c .seconds) (c .servers)) (length (c .seconds))))
 unfolding contents-conditions from
 contents-parts c =
-    let setup = setup-conditions (c .header .«class») (c .header .«server_count») (c .header .home) in
+    let setup = setup-conditions (setup-in (c .header)) in
     let seven = lengths-condition (length (c .seconds)) (length (c .servers)) ∷ [] in
     let rest = each (request-conditions (c .header .«server_count») (c .seconds) (c .servers)) (length (c .seconds)) in
     ap first (sym (append-assoc setup seven rest))

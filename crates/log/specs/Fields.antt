@@ -3,6 +3,7 @@ use mathlib.Core.List.{List}
 use Prim.Native.Nat.{ℕ, _+_, _*_}
 use Rattle.base.specs.Bytes.{byte, le16, le32}
 use Rattle.base.specs.Lists.{build}
+use Rattle.log.specs.declared.Setup.{Setup}
 use Rattle.log.specs.declared.Header.{Header}
 
 -- version, 16 bits
@@ -56,6 +57,10 @@ seconds-of s = build (request-count s) (λ i. le32 s (40 + 6 * i))
 -- the servers of the requests, 16 bits each, after the second
 unfoldable pub servers-of : List ℕ → List ℕ
 servers-of s = build (request-count s) (λ i. le16 s (44 + 6 * i))
+
+-- what a log says that a start is given
+abbrev pub setup-of : List ℕ → Setup
+setup-of s = record { «class» = class-of s; «server_count» = server-count s; home = home-of s }
 
 -- what a log says of its file
 unfoldable pub header-of : List ℕ → Header

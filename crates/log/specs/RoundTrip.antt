@@ -12,8 +12,8 @@ use Rattle.log.specs.declared.Header.{Header}
 use Rattle.log.specs.Fields.{version, class-of, server-count, home-of, request-count, requests-offset, id-offset, total-length, written-sum, id-of, length-for, seconds-of, servers-of, header-of}
 use Rattle.log.specs.Sum.{sum-of}
 use Rattle.log.specs.Conditions.{Accepted}
-use Rattle.log.specs.Contents.{Contents, decode, head, request-bytes, requests-bytes, body, encode}
-use Rattle.log.specs.AcceptedLaws.{Setup, Sound, Writable, accepted-sound, sound-accepted, writable-proper, proper-writable, seconds-length, servers-length, second-at, server-at, id-length}
+use Rattle.log.specs.Contents.{Contents, decode, head, request-bytes, requests-bytes, body, setup-in, encode}
+use Rattle.log.specs.AcceptedLaws.{Allowed, Sound, Writable, accepted-sound, sound-accepted, writable-proper, proper-writable, seconds-length, servers-length, second-at, server-at, id-length}
 use Rattle.log.specs.EncodeLaws.{Sixteen, encode-length, encode-version, encode-class, encode-server-count, encode-home, encode-zero, encode-requests-offset, encode-id-offset, encode-total, encode-written-sum, encode-sum, encode-count, encode-header, encode-seconds, encode-servers}
 
 -- ---- writing, then reading
@@ -180,7 +180,7 @@ requests-are seconds servers zero = none
 requests-are seconds servers (suc k) =
     joined (requests-are seconds servers k) (joined (number 4 (getD seconds k 0)) (number 2 (getD servers k 0)))
 
-head-is : (h : Header) (n : ℕ) → Setup (h .«class») (h .«server_count») (h .home) → Bytes (head h n)
+head-is : (h : Header) (n : ℕ) → Allowed (setup-in h) → Bytes (head h n)
 unfolding head
 head-is h n f =
     joined (number 2 1) (more (omega arith) (more (omega arith) (more (omega arith) (more (omega arith)

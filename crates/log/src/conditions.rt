@@ -12,6 +12,7 @@ ghost use Rattle.log.specs.Sum.{sum-of};
 ghost use Rattle.log.specs.Conditions.{setup-conditions, form-conditions, request-check, request-conditions, verdict-of};
 ghost use Rattle.log.specs.Contents.{contents, contents-conditions};
 use crate::Header;
+use crate::Setup;
 use crate::checksum::sum;
 use base::Refusal;
 use base::Verdict;
@@ -49,12 +50,12 @@ fn count_outside(count: u8) -> bool
 }
 
 // 3 to 5.
-pub fn setup_fault(v: Verdict, class: u8, count: u8, home: u8) -> Verdict
-    ensures { λ r. ⌜ r ≡ from v (setup-conditions class count home) ⌝ }
+pub fn setup_fault(v: Verdict, setup: Setup) -> Verdict
+    ensures { λ r. ⌜ r ≡ from v (setup-conditions setup) ⌝ }
 {
-    let v = or_else(v, 7 < class, 3, 0);
-    let v = or_else(v, count_outside(count), 4, 0);
-    or_else(v, count <= home, 5, 0)
+    let v = or_else(v, 7 < setup.class, 3, 0);
+    let v = or_else(v, count_outside(setup.server_count), 4, 0);
+    or_else(v, setup.server_count <= setup.home, 5, 0)
 }
 
 // An offset or the total is not as the format says, for a log of n requests.
@@ -90,7 +91,12 @@ fn form_fault(log: &[u8]) -> Verdict
     let n = at16(log, 6);
     let v = or_else(Verdict::Passed, log.len() < 40, 1, 0);
     let v = or_else(v, at16(log, 0) != 1, 2, 0);
-    let v = setup_fault(v, at(log, 2), at(log, 3), at(log, 4));
+    let setup = Setup {
+        class: at(log, 2),
+        server_count: at(log, 3),
+        home: at(log, 4),
+    };
+    let v = setup_fault(v, setup);
     let v = or_else(v, at(log, 5) != 0, 6, 0);
     let v = or_else(v, 2048 < n, 7, 0);
     let v = or_else(v, misplaced(log, n), 8, 0);
@@ -203,7 +209,12 @@ pub fn contents_fault(header: Header, seconds: &[u32], servers: &[u16]) -> Verdi
     ensures { λ r. ⌜ r ≡ first (contents-conditions (contents header (now (seconds .entry)) (now (servers .entry)))) ⌝ }
 {
     let count = header.server_count;
-    let v = setup_fault(Verdict::Passed, header.class, count, header.home);
+    let setup = Setup {
+        class: header.class,
+        server_count: count,
+        home: header.home,
+    };
+    let v = setup_fault(Verdict::Passed, setup);
     let v = or_else(v, lengths_outside(seconds.len(), servers.len()), 7, 0);
     if let Verdict::Refused(r) = v {
         return Verdict::Refused(r);

@@ -1,9 +1,10 @@
--- What a start, a scan and a close answer, and the state that each gives back: unchanged where refused, zeros for a start. Assumes nothing.
+-- What a start, a scan, the running cost and a close answer, and the state that they give back: unchanged where refused, zeros for a start. Assumes nothing.
 use Prim.Native.Nat.{ℕ}
 use Rattle.base.specs.Choice.{pick}
 use Rattle.base.specs.Refusals.{first}
 use Rattle.base.specs.declared.Verdict.{Verdict}
 use Rattle.base.specs.declared.Verdict.the-variants.{Passed, Refused}
+use Rattle.log.specs.declared.Setup.{Setup}
 use Rattle.log.specs.Conditions.{setup-conditions}
 use Rattle.online.specs.declared.Cache.{Cache}
 use Rattle.online.specs.declared.StartOutcome.the-variants as start
@@ -11,44 +12,60 @@ use Rattle.online.specs.declared.Started.{Started}
 use Rattle.online.specs.declared.ScanOutcome.{ScanOutcome}
 use Rattle.online.specs.declared.ScanOutcome.the-variants as scan
 use Rattle.online.specs.declared.Scanned.{Scanned}
+use Rattle.online.specs.declared.RunningCost.{RunningCost}
+use Rattle.online.specs.declared.RunningCost.the-variants as running′
 use Rattle.online.specs.declared.CloseOutcome.the-variants as close
 use Rattle.online.specs.declared.Closed.{Closed}
 use Rattle.online.specs.Rules.{fresh, zeros, kept, accept, running, shut}
-use Rattle.online.specs.Conditions.{scan-conditions, close-conditions}
+use Rattle.online.specs.Conditions.{scan-conditions, running-conditions, close-conditions}
 
 -- what refuses a start: the first condition that holds
-unfoldable pub start-verdict : ℕ → ℕ → ℕ → Verdict
-start-verdict class′ count home = first (setup-conditions class′ count home)
+unfoldable pub start-verdict : Setup → Verdict
+start-verdict s = first (setup-conditions s)
 
 -- what refuses a scan
 unfoldable pub scan-verdict : Cache → ℕ → ℕ → Verdict
 scan-verdict c second server = first (scan-conditions c second server)
+
+-- what refuses to say the running cost
+unfoldable pub running-verdict : Cache → Verdict
+running-verdict c = first (running-conditions c)
 
 -- what refuses a close
 unfoldable pub close-verdict : Cache → Verdict
 close-verdict c = first (close-conditions c)
 
 -- a start by its verdict: ready, or refused with a state of zeros
-unfoldable pub started-by : Verdict → ℕ → ℕ → ℕ → Started
-started-by Passed class′ count home = record { cache = fresh class′ count home; outcome = start.Ready }
-started-by (Refused r) class′ count home = record { cache = zeros; outcome = start.Refused r }
+unfoldable pub started-by : Verdict → Setup → Started
+started-by Passed s = record { cache = fresh s; outcome = start.Ready }
+started-by (Refused r) s = record { cache = zeros; outcome = start.Refused r }
 
 -- a start
-unfoldable pub started : ℕ → ℕ → ℕ → Started
-started class′ count home = started-by (start-verdict class′ count home) class′ count home
+unfoldable pub started : Setup → Started
+started s = started-by (start-verdict s) s
 
--- K, or S from the last server
-unfoldable pub mark-outcome : Cache → ℕ → ℕ → ScanOutcome
-mark-outcome c second server = pick (kept c second server) scan.Kept (scan.Sent (c .last))
+-- K, or S from the last server, with a cost
+unfoldable pub mark-outcome : Cache → ℕ → ℕ → ℕ → ScanOutcome
+mark-outcome c second server cost = pick (kept c second server) (scan.Kept cost) (scan.Sent (c .last) cost)
 
--- a scan by its verdict: its mark and the next state, or refused
+-- a scan by its verdict: its mark with the running cost after it, and the next state; or refused
 unfoldable pub scanned-by : Verdict → Cache → ℕ → ℕ → Scanned
-scanned-by Passed c second server = record { cache = accept c second server; outcome = mark-outcome c second server }
+scanned-by Passed c second server =
+    record { cache = accept c second server; outcome = mark-outcome c second server (running (accept c second server)) }
 scanned-by (Refused r) c second server = record { cache = c; outcome = scan.Refused r }
 
 -- a scan
 unfoldable pub scanned : Cache → ℕ → ℕ → Scanned
 scanned c second server = scanned-by (scan-verdict c second server) c second server
+
+-- the running cost by its verdict
+unfoldable pub running-by : Verdict → Cache → RunningCost
+running-by Passed c = running′.Cost (running c)
+running-by (Refused r) c = running′.Refused r
+
+-- the running cost of a state, closed or not
+unfoldable pub running-answer : Cache → RunningCost
+running-answer c = running-by (running-verdict c) c
 
 -- a close by its verdict: the running cost and the state closed, or refused
 unfoldable pub closed-by : Verdict → Cache → Closed

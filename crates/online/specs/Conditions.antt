@@ -1,4 +1,4 @@
--- The conditions of a scan and of a close, in 01's order; those of a start are log's setup-conditions (3, 4, 5). Assumes nothing.
+-- The conditions of a scan, of the running cost and of a close, in 01's order; those of a start are log's setup-conditions (3, 4, 5). Assumes nothing.
 use mathlib.Core.Bool.{Bool, false, not}
 use mathlib.Core.List.{List, [], _∷_}
 use Prim.Native.Nat.{ℕ, _+_}
@@ -58,6 +58,10 @@ scan-conditions c second server =
     ∷ refuse 34 0 (leb 2048 (c .requests))
     ∷ refuse 35 0 (leb second (c .second))
     ∷ []
+
+-- the running cost: 32
+unfoldable pub running-conditions : Cache → List Condition
+running-conditions c = refuse 32 0 (broken c) ∷ []
 
 -- a close: 32; 33 closed
 unfoldable pub close-conditions : Cache → List Condition

@@ -1,27 +1,16 @@
--- The online cache: the definitions of 01's 'The live keeper' and of a list of calls, and the second half of demand 3.
+-- The online cache: the definitions of 01's 'The live keeper', and what the code's proofs need of them.
+-- ---- what a reader believes
 pub mod Servers
 pub mod Rules
 pub mod Conditions
 pub mod Answers
+-- ---- laws
 pub mod Serving
-pub mod Calls
-pub mod History
 pub mod ServerLaws
 pub mod ConditionLaws
 pub mod StartLaws
 pub mod Walk
-pub mod HistoryLaws
-pub mod Seconds
-pub mod Potential
-pub mod WithinThree
-pub mod Holding
-pub mod NotBelow
-pub mod Agreement
-pub mod Sound
+pub mod Intact
 pub mod Widths
 pub mod Passed
 pub mod Untouched
-pub mod CallLaws
-pub mod Follows
-pub mod Reached
-pub mod Claim

@@ -8,6 +8,7 @@ use Rattle.base.specs.Sets.{has}
 use Rattle.base.specs.Lists.{build}
 use Rattle.prices.specs.declared.Prices.{Prices}
 use Rattle.prices.specs.Prices.{prices-of, window}
+use Rattle.log.specs.declared.Setup.{Setup}
 use Rattle.online.specs.declared.Cache.{Cache}
 use Rattle.online.specs.Servers.{across, set-of}
 
@@ -32,15 +33,15 @@ use-at c y = getD (c .«last_use») y 0
 -- ---- a start
 
 -- the copy at home, last use 0, home as last server, last second 0, no requests, transfers or held seconds, not closed
-unfoldable pub fresh : ℕ → ℕ → ℕ → Cache
-fresh class′ count home =
+unfoldable pub fresh : Setup → Cache
+fresh s =
     record {
-      «class» = class′;
-      «server_count» = count;
-      last = home;
+      «class» = s .«class»;
+      «server_count» = s .«server_count»;
+      last = s .home;
       second = 0;
       «last_use» = build 64 (λ y. 0);
-      holders = set-of 64 (λ y. eqb y home);
+      holders = set-of 64 (λ y. eqb y (s .home));
       requests = 0;
       transfers = 0;
       held = 0;
@@ -106,7 +107,7 @@ accept c τ x =
       closed = c .closed;
     }
 
--- ---- the close
+-- ---- the running cost and the close
 
 -- the running cost (01: running bill): all holding up to the last request, and all transfers
 unfoldable pub running : Cache → ℕ

@@ -11,7 +11,7 @@ use Rattle.base.specs.Sets.{has, put}
 use Rattle.base.specs.SetLaws.{has-put, has-put-other}
 use Rattle.online.specs.declared.Cache.{Cache}
 use Rattle.online.specs.Rules.{copy-at, lasts, kept, uses, stands, next-use, seconds}
-use Rattle.online.specs.Sound.{Sound}
+use Rattle.online.specs.Intact.{Intact}
 
 -- a server that is neither the request's, nor the last one, and has no copy
 pub record Untouched (c : Cache) (x y : ℕ) : Type 0 where
@@ -20,7 +20,7 @@ pub record Untouched (c : Cache) (x y : ℕ) : Type 0 where
   pub no-copy : copy-at c y ≡ false
 
 -- such is each that is not in the holders with the request's server
-pub untouched : (c : Cache) (x y : ℕ) → Sound c → has (put (c .holders) x) y ≡ false → Untouched c x y
+pub untouched : (c : Cache) (x y : ℕ) → Intact c → has (put (c .holders) x) y ≡ false → Untouched c x y
 unfolding copy-at
 untouched c x y s h = record { not-own = own; not-last = λ e. not-both (ap (copy-at c) e ∙ s .last-stands) bare; no-copy = bare }
   where

@@ -4,7 +4,7 @@ ghost use lib.Dec.{ltb, eqb};
 ghost use Rattle.base.specs.Choice.{either};
 ghost use Rattle.online.specs.Servers.{some-server};
 ghost use Rattle.online.specs.Conditions.{server-broken, broken};
-ghost use Rattle.online.specs.Answers.{scan-verdict, close-verdict};
+ghost use Rattle.online.specs.Answers.{scan-verdict, running-verdict, close-verdict};
 ghost use Rattle.online.specs.Serving.{With-use};
 use crate::Cache;
 use crate::state::Outline;
@@ -119,10 +119,16 @@ pub fn scan_fault(cache: Cache, second: u32, server: u16) -> Verdict
     or_else(v, second <= cache.second, 35, 0)
 }
 
+// What refuses to say the running cost: 32.
+pub fn state_fault(cache: Cache) -> Verdict
+    ensures { λ r. ⌜ r ≡ running-verdict cache ⌝ }
+{
+    or_else(Verdict::Passed, broken(cache), 32, 0)
+}
+
 // What refuses a close: 32, 33.
 pub fn close_fault(cache: Cache) -> Verdict
     ensures { λ r. ⌜ r ≡ close-verdict cache ⌝ }
 {
-    let v = or_else(Verdict::Passed, broken(cache), 32, 0);
-    or_else(v, cache.closed, 33, 0)
+    or_else(state_fault(cache), cache.closed, 33, 0)
 }

@@ -1,13 +1,15 @@
-// The online cache (01: the live keeper): its state and its answers. The calls are in start, scan and close.
+// The online cache (01: the live keeper): its state and its answers. The calls are in start, scan, running and close.
 mod close;
 mod conditions;
+mod running;
 mod scan;
 mod start;
 mod state;
 
 use base::Refusal;
 
-// The state (01's 'The live keeper'). Every field is public, so that a caller can hand in any state.
+// The state (01's 'The live keeper'). Every field is public, so that a caller can hand in any state; its layout is C's.
+#[repr(C)]
 pub struct Cache {
     // the price class
     pub class: u8,
@@ -42,10 +44,10 @@ pub struct Started {
     pub outcome: StartOutcome,
 }
 
-// A request found its copy kept (K), or it was sent from a server (S), or it is refused.
+// A request found its copy kept (K), or it was sent from a server (S), each with the running cost after it; or it is refused.
 pub enum ScanOutcome {
-    Kept,
-    Sent(u16),
+    Kept { cost: u64 },
+    Sent { source: u16, cost: u64 },
     Refused(Refusal),
 }
 
@@ -55,7 +57,13 @@ pub struct Scanned {
     pub outcome: ScanOutcome,
 }
 
-// A close gives the running cost (01: running bill), or is refused.
+// The running cost (01: running bill), or why there is none.
+pub enum RunningCost {
+    Cost(u64),
+    Refused(Refusal),
+}
+
+// A close gives the running cost, or is refused.
 pub enum CloseOutcome {
     Cost(u64),
     Refused(Refusal),

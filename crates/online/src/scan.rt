@@ -13,6 +13,7 @@ use crate::Cache;
 use crate::ScanOutcome;
 use crate::Scanned;
 use crate::conditions::scan_fault;
+use crate::running::running_cost;
 use crate::state::Outline;
 use crate::state::expiry;
 use crate::state::outline_of;
@@ -185,18 +186,21 @@ fn accept(cache: Cache, o: Outline, q: Served) -> Cache
     }
 }
 
-// K, or S from the last server.
-fn mark(o: Outline, q: Served) -> ScanOutcome
-    ensures { λ r. ⌜ With-mark o q (λ c. r ≡ mark-outcome c (q .second) (q .server)) ⌝ }
+// K, or S from the last server, with the running cost.
+fn mark(o: Outline, q: Served, cost: u64) -> ScanOutcome
+    ensures { λ r. ⌜ With-mark o q (λ c. r ≡ mark-outcome c (q .second) (q .server) cost) ⌝ }
 {
     if q.kept {
-        return ScanOutcome::Kept;
+        return ScanOutcome::Kept { cost };
     }
-    ScanOutcome::Sent(o.last)
+    ScanOutcome::Sent {
+        source: o.last,
+        cost,
+    }
 }
 
 impl Cache {
-    // The request's mark and the next state, or 11, 12, 32 to 35 and the same state.
+    // The request's mark with the running cost after it, and the next state, or 11, 12, 32 to 35 and the same state.
     pub fn scan(self, second: u32, server: u16) -> Scanned
         ensures { λ r. ⌜ r ≡ scanned self second server ⌝ }
     {
@@ -215,9 +219,10 @@ impl Cache {
             kept: kept(o, used, second, server),
         };
         let cache = accept(self, o, q);
+        let cost = running_cost(cache);
         Scanned {
             cache,
-            outcome: mark(o, q),
+            outcome: mark(o, q, cost),
         }
     }
 }

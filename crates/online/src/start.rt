@@ -8,16 +8,17 @@ use crate::Started;
 use crate::state::half;
 use base::Verdict;
 use base::sets::put;
+use log::Setup;
 use log::setup_fault;
 
 // The copy at home, home as the last server, and nothing counted yet.
-fn fresh(class: u8, server_count: u8, home: u8) -> Cache
-    ensures { λ r. ⌜ r ≡ fresh class «server_count» home ⌝ }
+fn fresh(setup: Setup) -> Cache
+    ensures { λ r. ⌜ r ≡ fresh setup ⌝ }
 {
-    let last = half(home);
+    let last = half(setup.home);
     Cache {
-        class,
-        server_count,
+        class: setup.class,
+        server_count: setup.server_count,
         last,
         second: 0,
         last_use: [0u32; 64],
@@ -49,10 +50,10 @@ fn zeros() -> Cache
 
 impl Cache {
     // A fresh state, or 3 to 5 and a state of zeros.
-    pub fn start(class: u8, server_count: u8, home: u8) -> Started
-        ensures { λ r. ⌜ r ≡ started class «server_count» home ⌝ }
+    pub fn start(setup: Setup) -> Started
+        ensures { λ r. ⌜ r ≡ started setup ⌝ }
     {
-        let v = setup_fault(Verdict::Passed, class, server_count, home);
+        let v = setup_fault(Verdict::Passed, setup);
         if let Verdict::Refused(r) = v {
             let blank = zeros();
             return Started {
@@ -60,7 +61,7 @@ impl Cache {
                 outcome: StartOutcome::Refused(r),
             };
         }
-        let ready = fresh(class, server_count, home);
+        let ready = fresh(setup);
         Started {
             cache: ready,
             outcome: StartOutcome::Ready,

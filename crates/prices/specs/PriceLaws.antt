@@ -1,12 +1,14 @@
 -- The table: what stands past it, its two columns, and its rule, that every class has prices from 1 to 1,000,000. Assumes nothing.
 use mathlib.Core.Bool.{Bool, true}
 use mathlib.Core.List.{map}
+use mathlib.Core.Logic.{_⊎_, inl, inr}
 use mathlib.Core.Path.{_≡_, refl, sym, ap₂}
+use native.Mathlib.Omega.{arith}
 use Prim.Native.Nat.{ℕ, _≤_, _<_}
 use lib.Dec.{leb}
 use lib.ListN.{getD, List·getD-eq-default, List·getD-map}
 use borrow.Author.Tests.{leb-true}
-use Rattle.base.specs.Choice.{both}
+use Rattle.base.specs.Choice.{both, le-or-lt}
 use Rattle.base.specs.ChoiceLaws.{both-true}
 use Rattle.base.specs.Lists.{every, every-at}
 use Rattle.prices.specs.declared.Prices.{Prices}
@@ -48,3 +50,11 @@ in-range-true p e =
 pub class-in-range : (class : ℕ) → class < 8 → In-range (prices-of class)
 unfolding prices-of classes in-range every
 class-in-range class l = in-range-true (prices-of class) (every-at in-range classes (priced 0 0) class refl l)
+
+-- no price is above 1,000,000, that of no class either
+pub prices-most : (class : ℕ) → (prices-of class .hold ≤ 1000000) × (prices-of class .transfer ≤ 1000000)
+prices-most class = go (le-or-lt 8 class)
+  where
+    go : (8 ≤ class) ⊎ (class < 8) → (prices-of class .hold ≤ 1000000) × (prices-of class .transfer ≤ 1000000)
+    go (inl h) = rw (no-class class h) (omega arith)
+    go (inr h) = let r = class-in-range class h in (r .hold-most, r .transfer-most)

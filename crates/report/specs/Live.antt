@@ -4,11 +4,11 @@ use Prim.Native.Nat.{ℕ, suc}
 use lib.ListN.{getD}
 use Rattle.base.specs.Choice.{pick}
 use Rattle.base.specs.Lists.{build}
-use Rattle.log.specs.Fields.{class-of, server-count, home-of, request-count, seconds-of, servers-of}
+use Rattle.log.specs.Fields.{setup-of, request-count, seconds-of, servers-of}
 use Rattle.online.specs.declared.Cache.{Cache}
 use Rattle.online.specs.Rules.{kept, running}
 use Rattle.online.specs.Answers.{started}
-use Rattle.online.specs.Calls.{Call, scan, run}
+use Rattle.bounds.specs.Calls.{Call, scan, run}
 
 -- the first k of some requests, as scan calls
 unfoldable pub scans : List ℕ → List ℕ → ℕ → List Call
@@ -30,7 +30,7 @@ live-cost c seconds servers i = running (state-after c seconds servers (suc i))
 
 -- a start with what a log says
 unfoldable pub opened : List ℕ → Cache
-opened log = started (class-of log) (server-count log) (home-of log) .cache
+opened log = started (setup-of log) .cache
 
 -- the marks of a log's requests
 unfoldable pub live-marks : List ℕ → List ℕ

@@ -17,7 +17,7 @@ use Rattle.base.specs.RefusalLaws.{otherwise, first-append, first-met, first-pa
 use Rattle.base.specs.declared.Refusal.{Refusal}
 use Rattle.base.specs.declared.Verdict.{Verdict}
 use Rattle.base.specs.declared.Verdict.the-variants.{Passed, Refused}
-use Rattle.log.specs.Fields.{version, class-of, server-count, home-of, request-count, requests-offset, id-offset, total-length, written-sum, length-for}
+use Rattle.log.specs.Fields.{version, class-of, server-count, home-of, setup-of, request-count, requests-offset, id-offset, total-length, written-sum, length-for}
 use Rattle.log.specs.Sum.{sum-of}
 use Rattle.log.specs.Conditions.{setup-conditions, header-conditions, log-conditions, verdict-of}
 use Rattle.log.specs.ConditionLaws.{log-requests}
@@ -28,7 +28,7 @@ abbrev early : List ℕ → List Condition
 early s =
     refuse 1 0 (ltb (length s) 40)
     ∷ refuse 2 0 (not (eqb (version s) 1))
-    ∷ (setup-conditions (class-of s) (server-count s) (home-of s)
+    ∷ (setup-conditions (setup-of s)
     ++ (refuse 6 0 (not (eqb (byte s 5) 0))
     ∷ refuse 7 0 (ltb 2048 (request-count s))
     ∷ refuse 8 0

@@ -7,9 +7,7 @@ use Rattle.planner.specs.declared.Planned.the-variants as planned′
 use Rattle.online.specs.declared.Cache.{Cache}
 use Rattle.online.specs.declared.ScanOutcome.{ScanOutcome}
 use Rattle.online.specs.declared.ScanOutcome.the-variants as scan′
-use Rattle.online.specs.declared.CloseOutcome.{CloseOutcome}
-use Rattle.online.specs.declared.CloseOutcome.the-variants as close′
-use Rattle.online.specs.Answers.{scanned, closed-answer}
+use Rattle.online.specs.Answers.{scanned}
 use Rattle.report.specs.declared.live.Turn.{Turn}
 
 -- the requests that a reader read; none where it refused
@@ -24,17 +22,18 @@ rows-planned (planned′.Refused r) = 0
 
 -- the letter of a scan's mark; a refused scan has none
 unfoldable pub outcome-letter : ScanOutcome → ℕ
-outcome-letter scan′.Kept = 75
-outcome-letter (scan′.Sent from) = 83
+outcome-letter (scan′.Kept cost) = 75
+outcome-letter (scan′.Sent from cost) = 83
 outcome-letter (scan′.Refused r) = 0
 
--- the cost that a close gives; a refused one gives none
-unfoldable pub outcome-cost : CloseOutcome → ℕ
-outcome-cost (close′.Cost x) = x
-outcome-cost (close′.Refused r) = 0
+-- the running cost that it gives; a refused one gives none
+unfoldable pub outcome-cost : ScanOutcome → ℕ
+outcome-cost (scan′.Kept cost) = cost
+outcome-cost (scan′.Sent from cost) = cost
+outcome-cost (scan′.Refused r) = 0
 
--- a scan and what a close after it would give
+-- a scan, with the letter of its mark and the running cost
 unfoldable pub turn : Cache → ℕ → ℕ → Turn
 turn c second server =
     let s = scanned c second server in
-    record { cache = s .cache; mark = outcome-letter (s .outcome); cost = outcome-cost (closed-answer (s .cache) .outcome) }
+    record { cache = s .cache; mark = outcome-letter (s .outcome); cost = outcome-cost (s .outcome) }

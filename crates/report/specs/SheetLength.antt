@@ -16,7 +16,7 @@ use Rattle.planner.specs.LoadedLaws.{log-fits}
 use Rattle.online.specs.Widths.{running-fits}
 use Rattle.report.specs.declared.Entry.{Entry}
 use Rattle.report.specs.Live.{live-cost, opened, running-costs}
-use Rattle.report.specs.LiveLaws.{sound-after}
+use Rattle.report.specs.LiveLaws.{intact-after}
 use Rattle.report.specs.Sheet.{columns-of, sheet-of}
 use Rattle.report.specs.SheetLaws.{few-rows}
 use Rattle.report.specs.Text.{entry-of, entry-line, entry-lines}
@@ -33,7 +33,9 @@ module _ (log : List ℕ) (a : Accepted log) where
   running-small : (i : ℕ) → i < request-count log → getD (running-costs log) i 0 < 2 ^ 64
   unfolding running-costs live-cost
   running-small i h =
-      rw (build-at (request-count log) (live-cost (opened log) (seconds-of log) (servers-of log)) i 0 h) (running-fits _ (sound-after log a (suc i) h))
+      let s = intact-after log a (suc i) h in
+      rw (build-at (request-count log) (live-cost (opened log) (seconds-of log) (servers-of log)) i 0 h)
+      (running-fits _ (omega (arith, s .held-most)) (omega (arith, s .transfers-most, s .requests-most)))
 
   abbrev entry : ℕ → Entry
   entry = entry-of (columns-of log)

@@ -8,13 +8,14 @@ ghost use Rattle.base.specs.Lists.{build};
 ghost use Rattle.base.specs.declared.Verdict.the-variants.{Passed};
 ghost use Rattle.online.specs.Answers.{started};
 ghost use Rattle.report.specs.Live.{live-mark, live-cost};
+ghost use Rattle.log.specs.Contents.{setup-in};
 ghost use Rattle.report.specs.Replies.{outcome-letter, outcome-cost, turn};
 ghost use Rattle.report.specs.LiveLaws.{Runs};
 use base::bytes::clear8;
 use base::bytes::clear64;
 use log::Header;
+use log::Setup;
 use online::Cache;
-use online::CloseOutcome;
 use online::ScanOutcome;
 
 // One request: the next state, the letter of the mark, and the running cost.
@@ -29,43 +30,47 @@ fn letter(outcome: ScanOutcome) -> u8
     ensures { λ r. ⌜ r ≡ outcome-letter outcome ⌝ }
 {
     match outcome {
-        ScanOutcome::Kept => b'K',
-        ScanOutcome::Sent(_) => b'S',
+        ScanOutcome::Kept { cost: _ } => b'K',
+        ScanOutcome::Sent { source: _, cost: _ } => b'S',
         ScanOutcome::Refused(_) => 0,
     }
 }
 
-// The cost that a close gives.
-fn amount(outcome: CloseOutcome) -> u64
+// The running cost after a request.
+fn amount(outcome: ScanOutcome) -> u64
     ensures { λ r. ⌜ r ≡ outcome-cost outcome ⌝ }
 {
     match outcome {
-        CloseOutcome::Cost(x) => x,
-        CloseOutcome::Refused(_) => 0,
+        ScanOutcome::Kept { cost } => cost,
+        ScanOutcome::Sent { source: _, cost } => cost,
+        ScanOutcome::Refused(_) => 0,
     }
 }
 
-// One request scanned. The state is closed for its running cost only, and goes on open.
+// One request scanned.
 fn step(cache: Cache, second: u32, server: u16) -> Turn
     ensures { λ r. ⌜ r ≡ turn cache second server ⌝ }
 {
     let scanned = cache.scan(second, server);
     let outcome = scanned.outcome;
     let next = scanned.cache;
-    let closed = next.close();
-    let end = closed.outcome;
     Turn {
         cache: next,
         mark: letter(outcome),
-        cost: amount(end),
+        cost: amount(outcome),
     }
 }
 
 // The state of a log's start.
 pub fn open(header: Header) -> Cache
-    ensures { λ r. ⌜ r ≡ started (header .«class») (header .«server_count») (header .home) .cache ⌝ }
+    ensures { λ r. ⌜ r ≡ started (setup-in header) .cache ⌝ }
 {
-    let s = Cache::start(header.class, header.server_count, header.home);
+    let setup = Setup {
+        class: header.class,
+        server_count: header.server_count,
+        home: header.home,
+    };
+    let s = Cache::start(setup);
     s.cache
 }
 

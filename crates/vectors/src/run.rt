@@ -2,10 +2,11 @@
 use checker::Checked;
 use checker::check;
 use log::Header;
+use log::Setup;
 use log::Written;
 use log::write;
 use online::Cache;
-use online::CloseOutcome;
+use online::RunningCost;
 use planner::LeastCosts;
 use planner::Planned;
 use planner::least;
@@ -79,15 +80,13 @@ pub(crate) fn checked_rows(log: &[u8], rows: &[u32], n: u32) -> u64 {
     checked(log, &rows[..end])
 }
 
-fn amount(outcome: CloseOutcome) -> u64 {
-    match outcome {
-        CloseOutcome::Cost(cost) => cost,
-        CloseOutcome::Refused(_) => ABSENT,
-    }
-}
-
-fn opened(class: u8, server_count: u8, home: u8) -> Cache {
-    let s = Cache::start(class, server_count, home);
+fn open(class: u8, server_count: u8, home: u8) -> Cache {
+    let setup = Setup {
+        class,
+        server_count,
+        home,
+    };
+    let s = Cache::start(setup);
     s.cache
 }
 
@@ -96,15 +95,17 @@ fn next(cache: Cache, second: u32, server: u16) -> Cache {
     s.cache
 }
 
-fn ended(cache: Cache) -> u64 {
-    let c = cache.close();
-    let end = c.outcome;
-    amount(end)
+fn amount(cache: Cache) -> u64 {
+    let c = cache.running();
+    match c {
+        RunningCost::Cost(cost) => cost,
+        RunningCost::Refused(_) => ABSENT,
+    }
 }
 
 // The running cost after all requests.
 pub(crate) fn live(class: u8, server_count: u8, home: u8, seconds: &[u32], servers: &[u16]) -> u64 {
-    let mut cache = opened(class, server_count, home);
+    let mut cache = open(class, server_count, home);
     let mut i: usize = 0;
     while i < seconds.len() {
         if servers.len() <= i {
@@ -113,5 +114,5 @@ pub(crate) fn live(class: u8, server_count: u8, home: u8, seconds: &[u32], serve
         cache = next(cache, seconds[i], servers[i]);
         i += 1;
     }
-    ended(cache)
+    amount(cache)
 }

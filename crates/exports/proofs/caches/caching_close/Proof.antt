@@ -2,15 +2,11 @@
 use borrow.Author.Needs.{needs}
 use Rattle.exports.proofs.caches.caching_close.Statement.{statement}
 use Rattle.exports.proofs.caches.caching_close.Tie as tie
-
-cache-of-requires : tie.Need-cache-of-requires
-cache-of-requires c κs = search needs
+use Rattle.exports.proofs.caches.of_close.Reads as of-close-reads
+use Rattle.online.proofs.Cache.close.Reads as close-reads
 
 close-requires : tie.Need-close-requires
 close-requires c κs = search needs
-
-state-of-requires : tie.Need-state-of-requires
-state-of-requires c κs = search needs
 
 of-close-requires : tie.Need-of-close-requires
 of-close-requires c κs = search needs
@@ -19,6 +15,4 @@ returns : tie.Need-returns
 returns c = cc
 
 pub caching-close-spec : {M : Type 1} → statement M
-caching-close-spec =
-    tie.close
-    (tie.spec cache-of-requires close-requires state-of-requires of-close-requires returns)
+caching-close-spec = tie.close (tie.spec close-requires of-close-requires returns)

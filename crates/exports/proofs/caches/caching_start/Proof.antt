@@ -2,12 +2,11 @@
 use borrow.Author.Needs.{needs}
 use Rattle.exports.proofs.caches.caching_start.Statement.{statement}
 use Rattle.exports.proofs.caches.caching_start.Tie as tie
+use Rattle.exports.proofs.caches.of_start.Reads as of-start-reads
+use Rattle.online.proofs.Cache.start.Reads as start-reads
 
 start-requires : tie.Need-start-requires
 start-requires c κs = search needs
-
-state-of-requires : tie.Need-state-of-requires
-state-of-requires c κs = search needs
 
 of-start-requires : tie.Need-of-start-requires
 of-start-requires c κs = search needs
@@ -16,5 +15,4 @@ returns : tie.Need-returns
 returns c = cc
 
 pub caching-start-spec : {M : Type 1} → statement M
-caching-start-spec =
-    tie.close (tie.spec start-requires state-of-requires of-start-requires returns)
+caching-start-spec = tie.close (tie.spec start-requires of-start-requires returns)

@@ -18,7 +18,7 @@ same-length-2 c = search needs
 
 returns : tie.Need-returns
 returns c =
-    let d = c .before .before .before .before .before .before .before .read in
+    let d = c .before .before .before .before .before .before .read in
     rw (c .of-read .ensures, ← d .ensures .0) (refl, d .ensures .1)
 
 pub caching-read-spec : {M : Type 1} → statement M

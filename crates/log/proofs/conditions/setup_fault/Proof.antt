@@ -22,9 +22,9 @@ unfolding setup-conditions from
 returns c =
     simp (
       c .or-else3 .ensures,
-      c .before .or-else2 .ensures,
-      c .before .before .count-outside .ensures,
-      c .before .before .before .or-else .ensures,
+      c .before .before .or-else2 .ensures,
+      c .before .before .before .count-outside .ensures,
+      c .before .before .before .before .or-else .ensures,
     )
 
 pub setup-fault-spec : {M : Type 1} → statement M

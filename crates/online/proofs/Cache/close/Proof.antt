@@ -1,8 +1,6 @@
 -- `online::Cache::close` meets its contract. Assumes nothing.
 use borrow.Author.Needs.{needs}
-use mathlib.Core.Path.{sym, _∙_}
 use Rattle.online.specs.Answers.{closed-by, closed-answer}
-use Rattle.online.specs.Passed.{close-passed}
 use Rattle.online.proofs.Cache.close.Statement.{statement}
 use Rattle.online.proofs.Cache.close.Tie as tie
 
@@ -19,15 +17,15 @@ returns c = rw (← c .before .before .before .close-fault .ensures, c .before .
 enum-told : tie.Need-enum-told
 enum-told c = search needs
 
-running-requires : tie.Need-running-requires
-running-requires c κs = close-passed (c .before .before .before .args .self) (sym (c .before .before .close-fault .ensures) ∙ c .enum-told .given .1)
+running-cost-requires : tie.Need-running-cost-requires
+running-cost-requires c κs = search needs
 
 shut-requires : tie.Need-shut-requires
 shut-requires c κs = search needs
 
 returns-2 : tie.Need-returns-2
 unfolding closed-answer closed-by
-returns-2 c = rw (← c .before .before .before .before .close-fault .ensures, c .before .before .enum-told .given .1, c .shut .ensures, c .before .running .ensures)
+returns-2 c = rw (← c .before .before .before .before .close-fault .ensures, c .before .before .enum-told .given .1, c .shut .ensures, c .before .running-cost .ensures)
 
 pub close-spec : {M : Type 1} → statement M
 close-spec =
@@ -37,6 +35,6 @@ close-spec =
     enum-known-v
     returns
     enum-told
-    running-requires
+    running-cost-requires
     shut-requires
     returns-2)

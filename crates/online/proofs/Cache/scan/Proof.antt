@@ -37,20 +37,24 @@ accept-requires c κs =
       scan-passed (a .self) (a .second) (a .server) (sym (o .before .before .before .scan-fault .ensures) ∙ o .before .enum-told .given .1),
     )
 
+running-cost-requires : tie.Need-running-cost-requires
+running-cost-requires c κs = search needs
+
 mark-requires : tie.Need-mark-requires
 mark-requires c κs = search needs
 
 returns-2 : tie.Need-returns-2
 unfolding scanned scanned-by
 returns-2 c =
-    let k = c .before .before in
+    let k = c .before .before .before in
     let o = k .before .before in
     let a = o .before .before .before .before .args in
     rw (
       ← o .before .before .before .scan-fault .ensures,
       o .before .enum-told .given .1,
       c .mark .ensures (a .self) (o .outline-of .ensures) (record { mark = k .kept .ensures (a .self) (o .outline-of .ensures) (k .before .use-at .ensures) }),
-      c .before .accept .ensures,
+      c .before .running-cost .ensures,
+      c .before .before .accept .ensures,
     )
 
 pub scan-spec : {M : Type 1} → statement M
@@ -65,5 +69,6 @@ scan-spec =
     use-at-requires
     kept-requires
     accept-requires
+    running-cost-requires
     mark-requires
     returns-2)

@@ -20,8 +20,8 @@ returns : tie.Need-returns
 unfolding started started-by start-verdict
 returns c =
     let a = c .before .before .before .before .before .args in
-    let e : c .before .before .before .before .setup-fault .result ≡ start-verdict (a .«class») (a .server-count) (a .home) =
-    c .before .before .before .before .setup-fault .ensures ∙ from-first (setup-conditions (a .«class») (a .server-count) (a .home)) in
+    let e : c .before .before .before .before .setup-fault .result ≡ start-verdict (a .setup) =
+    c .before .before .before .before .setup-fault .ensures ∙ from-first (setup-conditions (a .setup)) in
     rw (← e, c .before .before .v .given .1, c .zeros .ensures)
 
 enum-told : tie.Need-enum-told
@@ -34,8 +34,8 @@ returns-2 : tie.Need-returns-2
 unfolding started started-by start-verdict
 returns-2 c =
     let a = c .before .before .before .before .args in
-    let e : c .before .before .before .setup-fault .result ≡ start-verdict (a .«class») (a .server-count) (a .home) =
-    c .before .before .before .setup-fault .ensures ∙ from-first (setup-conditions (a .«class») (a .server-count) (a .home)) in
+    let e : c .before .before .before .setup-fault .result ≡ start-verdict (a .setup) =
+    c .before .before .before .setup-fault .ensures ∙ from-first (setup-conditions (a .setup)) in
     rw (← e, c .before .enum-told .given .1, c .fresh .ensures)
 
 pub start-spec : {M : Type 1} → statement M

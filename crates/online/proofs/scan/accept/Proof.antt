@@ -36,10 +36,10 @@ loop-holds : tie.Need-loop-holds Inv-loop μ-loop
 loop-holds c =
     let a = c .before .before .args in
     let p = c .before .before .pre in
-    let below : a .q .server < 64 = omega (arith, p .2 .counted, p .2 .sound .count-most) in
+    let below : a .q .server < 64 = omega (arith, p .2 .counted, p .2 .intact .count-most) in
     let own : c .put .result ≡ pick (ltb (a .q .server) 64) (put (a .o .holders) (a .q .server)) (a .o .holders) = c .put .ensures in
     let e : c .put .result ≡ put (a .cache .holders) (a .q .server) = own ∙ rw (lt-ltb _ _ below, p .0 .holders) in
-    let idle : (y : ℕ) → has (c .put .result) y ≡ false → Untouched (a .cache) (a .q .server) y = λ y h. untouched (a .cache) (a .q .server) y (p .2 .sound) (rw e at h) in (
+    let idle : (y : ℕ) → has (c .put .result) y ≡ false → Untouched (a .cache) (a .q .server) y = λ y h. untouched (a .cache) (a .q .server) y (p .2 .intact) (rw e at h) in (
       refl,
       list-first 64 (c .put .result) (next-use (a .cache) (a .q .second) (a .q .server)) (λ y h. no-next-use (a .cache) (a .q .second) (a .q .server) y (idle y h)),
       set-first 64 (c .put .result) (stands (a .cache) (a .q .second) (a .q .server)) (λ y h. no-stand (a .cache) (a .q .second) (a .q .server) y (idle y h)),
@@ -147,7 +147,7 @@ add-t22 c =
       l .inv .3,
       sum-most 64 (l .left) (a .q .second) (seconds (a .cache) (a .q .second)) (seconds-most (a .cache) (a .q .second)),
       p .2 .second-most,
-      p .2 .sound .held-most,
+      p .2 .intact .held-most,
     ) in
     search needs
 

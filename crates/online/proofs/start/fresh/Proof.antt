@@ -13,7 +13,7 @@ put-requires c κs = search needs
 
 returns : tie.Need-returns
 unfolding fresh
-returns c = rw (build-const 64 0, set-one 64 (c .before .before .args .home), c .put .ensures, c .before .half .ensures .0)
+returns c = rw (build-const 64 0, set-one 64 (c .before .before .args .setup .home), c .put .ensures, c .before .half .ensures .0)
 
 pub fresh-spec : {M : Type 1} → statement M
 fresh-spec = tie.close (tie.spec half-requires put-requires returns)

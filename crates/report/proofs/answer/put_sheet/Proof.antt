@@ -7,6 +7,7 @@ use Rattle.report.specs.Alike.{lent-alike}
 use Rattle.online.specs.Answers.{started}
 use Rattle.log.specs.AcceptedLaws.{accepted-sound}
 use Rattle.log.specs.Fields.{header-of, request-count}
+use Rattle.log.specs.Contents.{setup-in}
 use Rattle.log.specs.Answers.{decoded}
 use Rattle.log.specs.declared.Decoded.{Decoded}
 use mathlib.Core.Path.{_≡_, ap, _∙_}
@@ -64,7 +65,7 @@ give-live-requires c κs =
     let few = accepted-sound log (s .pre .0) .requests-most in
     let o : c .before .before .before .before .«open» .result ≡ opened log =
     c .before .before .before .before .«open» .ensures
-    ∙ ap (λ (x : Decoded). started (x .header .«class») (x .header .«server_count») (x .header .home) .cache) (d .ensures .0) in
+    ∙ ap (λ (x : Decoded). started (setup-in (x .header)) .cache) (d .ensures .0) in
     let seconds = lent-alike _ _ _ (d .ensures .1 .0) in
     let servers = lent-alike _ _ _ (d .ensures .1 .1) in (
       rw (n, o) (runs-read log (s .pre .0) _ _ seconds servers),
@@ -125,7 +126,7 @@ returns c =
     let few = accepted-sound log (s .pre .0) .requests-most in
     let o : c .before .before .before .before .before .before .before .before .before .before .before .before .before .before .before .before .before .«open» .result ≡ opened log =
     c .before .before .before .before .before .before .before .before .before .before .before .before .before .before .before .before .before .«open» .ensures
-    ∙ ap (λ (x : Decoded). started (x .header .«class») (x .header .«server_count») (x .header .home) .cache) (d .ensures .0) in
+    ∙ ap (λ (x : Decoded). started (setup-in (x .header)) .cache) (d .ensures .0) in
     let seconds = lent-alike _ _ _ (d .ensures .1 .0) in
     let servers = lent-alike _ _ _ (d .ensures .1 .1) in
     let p = c .before .before .put-lines .ensures in

@@ -2,7 +2,7 @@
 use borrow.Author.Needs.{needs}
 use Rattle.report.specs.LiveLaws.{Runs, turn-next}
 use Rattle.report.specs.Live.{scans, state-after, live-mark, live-cost}
-use Rattle.online.specs.Calls.{run}
+use Rattle.bounds.specs.Calls.{run}
 use Rattle.base.specs.LentLaws.{fill-next}
 use Rattle.base.specs.Lists.{build}
 use lib.ListN.{length, drop, length-set}

@@ -7,9 +7,6 @@ use Rattle.report.proofs.live.step.Tie as tie
 scan-requires : tie.Need-scan-requires
 scan-requires c κs = search needs
 
-close-requires : tie.Need-close-requires
-close-requires c κs = search needs
-
 letter-requires : tie.Need-letter-requires
 letter-requires c κs = search needs
 
@@ -18,8 +15,8 @@ amount-requires c κs = search needs
 
 returns : tie.Need-returns
 unfolding turn
-returns c = rw (c .amount .ensures, c .before .letter .ensures, c .before .before .close .ensures, c .before .before .before .before .scan .ensures)
+returns c = rw (c .amount .ensures, c .before .letter .ensures, c .before .before .before .scan .ensures)
 
 pub step-spec : {M : Type 1} → statement M
 step-spec =
-    tie.close (tie.spec scan-requires close-requires letter-requires amount-requires returns)
+    tie.close (tie.spec scan-requires letter-requires amount-requires returns)

@@ -11,8 +11,8 @@ Inv-loop class server-count home seconds servers cache₀ i₀ cache i = i ≤ l
 abbrev μ-loop : tie.MeasureT-loop
 μ-loop class server-count home seconds servers cache₀ i₀ cache i = length seconds - i
 
-opened-requires : tie.Need-opened-requires Inv-loop μ-loop
-opened-requires c κs = search needs
+open-requires : tie.Need-open-requires Inv-loop μ-loop
+open-requires c κs = search needs
 
 loop-holds : tie.Need-loop-holds Inv-loop μ-loop
 loop-holds c = search needs
@@ -44,8 +44,8 @@ loop-less c = search needs
 loop-again : tie.Need-loop-again Inv-loop μ-loop
 loop-again c = search needs
 
-ended-requires : tie.Need-ended-requires Inv-loop μ-loop
-ended-requires c κs = search needs
+amount-requires : tie.Need-amount-requires Inv-loop μ-loop
+amount-requires c κs = search needs
 
 returns-2 : tie.Need-returns-2 Inv-loop μ-loop
 returns-2 c = search needs
@@ -56,7 +56,7 @@ live-spec =
     (tie.spec
     Inv-loop
     μ-loop
-    opened-requires
+    open-requires
     loop-holds
     returns
     mul-next
@@ -67,5 +67,5 @@ live-spec =
     add-i
     loop-less
     loop-again
-    ended-requires
+    amount-requires
     returns-2)

@@ -36,17 +36,6 @@ verdicts c (a ∷ calls) = verdict c a ∷ verdicts (after c a) calls
 pub record Request : Type 0 where
   pub second : ℕ
   pub server : ℕ
-
--- with the request of a call before others, if the call is a scan that is not refused
-unfoldable pub taken-by : Verdict → Call → List Request → List Request
-taken-by Passed (scan second server) rs = record { second = second; server = server } ∷ rs
-taken-by Passed close rs = rs
-taken-by (Refused r) a rs = rs
-
--- the requests taken, in order
-unfoldable pub taken : Cache → List Call → List Request
-taken c [] = []
-taken c (a ∷ calls) = taken-by (verdict c a) a (taken (after c a) calls)
 
 -- a list of requests with home before them
 unfoldable pub requests-of : ℕ → List Request → Requests

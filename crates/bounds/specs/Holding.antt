@@ -10,9 +10,9 @@ use Rattle.base.specs.Choice.{pick, le-or-lt, same-or-not}
 use Rattle.model.specs.Requests.{Requests, previous, Rising}
 use Rattle.model.specs.RequestLaws.{rises-le, Latest, previous-some}
 use Rattle.model.specs.Marking.{K}
-use Rattle.online.specs.History.{last-use, mark, holds, before, over}
-use Rattle.online.specs.HistoryLaws.{kept-sent, Turn, target, source, other, turn, Marked, again, back, sent, marked}
-use Rattle.online.specs.Seconds.{before-old, before-new, holds-last, holds-some}
+use Rattle.bounds.specs.History.{last-use, mark, holds, before, over}
+use Rattle.bounds.specs.HistoryLaws.{kept-sent, Turn, target, source, other, turn, Marked, again, back, sent, marked}
+use Rattle.bounds.specs.Seconds.{before-old, before-new, holds-last, holds-some}
 
 -- second τ lies in the gap after request g, before request n or at it
 pub record Lies (q : Requests) (n τ g : ℕ) : Type 0 where

@@ -10,11 +10,11 @@ use borrow.Author.Tests.{eq-eqb, ne-eqb}
 use Rattle.base.specs.Choice.{pick, same-or-not}
 use Rattle.model.specs.Requests.{Requests}
 use Rattle.model.specs.Marking.{K, S}
 use Rattle.online.specs.Servers.{across}
 use Rattle.online.specs.ServerLaws.{across-le, across-same, across-add, across-const, at, at-same, at-other, across-at}
-use Rattle.online.specs.History.{last-use, mark}
-use Rattle.online.specs.HistoryLaws.{kept-sent, Turn, target, source, other, turn, use-last, use-none}
-use Rattle.online.specs.Seconds.{left-of, left-none, left-some, spent, spent-last, spent-other}
+use Rattle.bounds.specs.History.{last-use, mark}
+use Rattle.bounds.specs.HistoryLaws.{kept-sent, Turn, target, source, other, turn, use-last, use-none}
+use Rattle.bounds.specs.Seconds.{left-of, left-none, left-some, spent, spent-last, spent-other}
 
 -- time passing turns what is left into what is spent
 pass : (W : ℕ) (o : Option ℕ) (a b : ℕ) → a ≤ b → min (b - a) (left-of W o a) + left-of W o b ≡ left-of W o a

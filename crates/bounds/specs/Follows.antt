@@ -5,7 +5,7 @@ use native.Mathlib.Omega.{arith}
 use Prim.Native.Nat.{ℕ, suc, _+_, _<_}
 use lib.ListN.{length, getD}
 use Rattle.model.specs.Requests.{Requests, requests}
-use Rattle.online.specs.Calls.{Request, requests-of}
+use Rattle.bounds.specs.Calls.{Request, requests-of}
 
 -- the requests from request i + 1 on are those of a list
 unfoldable pub Follows : Requests → ℕ → List Request → Type 0

@@ -45,14 +45,14 @@ none-both true b e a = e
 none-both false b e a = absurd (not-both a refl)
 
 -- a server of such a state
-pub record Sound-server (c : Cache) (y : ℕ) : Type 0 where
+pub record Intact-server (c : Cache) (y : ℕ) : Type 0 where
   pub counted : copy-at c y ≡ true → y < c .«server_count»
   pub by-then : use-at c y ≤ c .second
   pub lasting : copy-at c y ≡ true → y ≢ c .last → c .second ≤ use-at c y + window-of c
   pub unused : copy-at c y ≡ false → use-at c y ≡ 0
 
 -- such a state
-pub record Sound (c : Cache) : Type 0 where
+pub record Intact (c : Cache) : Type 0 where
   pub class-in : c .«class» ≤ 7
   pub count-least : 1 ≤ c .«server_count»
   pub count-most : c .«server_count» ≤ 64
@@ -63,12 +63,12 @@ pub record Sound (c : Cache) : Type 0 where
   pub requests-most : c .requests ≤ 2048
   pub transfers-most : c .transfers ≤ c .requests
   pub held-most : c .held ≤ 256000000
-  pub servers : (y : ℕ) → y < 64 → Sound-server c y
+  pub servers : (y : ℕ) → y < 64 → Intact-server c y
 
 -- no fault at such a server
-sound-server : (c : Cache) (y : ℕ) → Sound-server c y → server-broken c y ≡ false
+intact-server : (c : Cache) (y : ℕ) → Intact-server c y → server-broken c y ≡ false
 unfolding server-broken
-sound-server c y s =
+intact-server c y s =
     none-holds (server-faults c y)
     (both-none _ _ (λ h. lt-leb _ _ (s .counted h))
     also le-ltb _ _ (s .by-then)
@@ -85,9 +85,9 @@ sound-server c y s =
     ]
 
 -- and the other way round
-server-sound : (c : Cache) (y : ℕ) → server-broken c y ≡ false → Sound-server c y
+server-intact : (c : Cache) (y : ℕ) → server-broken c y ≡ false → Intact-server c y
 unfolding server-broken
-server-sound c y h =
+server-intact c y h =
     let f = each-fails (server-faults c y) h in
     record {
       counted = λ a. leb-false _ _ (none-both _ _ (f 0) a);
@@ -99,10 +99,10 @@ server-sound c y h =
     both-yes : copy-at c y ≡ true → y ≢ c .last → both (copy-at c y) (not (eqb y (c .last))) ≡ true
     both-yes a e = rw a (ap not (ne-eqb y (c .last) e))
 
--- 32 does not refuse a sound state
-pub sound-unbroken : (c : Cache) → Sound c → broken c ≡ false
+-- 32 does not refuse an intact state
+pub intact-unbroken : (c : Cache) → Intact c → broken c ≡ false
 unfolding broken
-sound-unbroken c s =
+intact-unbroken c s =
     none-holds (faults c)
     (le-ltb _ _ (s .class-in)
     also neither-of (ne-eqb (c .«server_count») 0 (λ e. omega (arith, s .count-least))) (le-ltb _ _ (s .count-most))
@@ -113,13 +113,13 @@ sound-unbroken c s =
     also le-ltb _ _ (s .requests-most)
     also le-ltb _ _ (s .transfers-most)
     also le-ltb _ _ (s .held-most)
-    also some-server-none 64 (server-broken c) (λ y l. sound-server c y (s .servers y l))
+    also some-server-none 64 (server-broken c) (λ y l. intact-server c y (s .servers y l))
     also no-more)
 
 -- and no other
-pub unbroken-sound : (c : Cache) → broken c ≡ false → Sound c
+pub unbroken-intact : (c : Cache) → broken c ≡ false → Intact c
 unfolding broken
-unbroken-sound c h =
+unbroken-intact c h =
     let f = each-fails (faults c) h in
     let n = either-false (eqb (c .«server_count») 0) (ltb 64 (c .«server_count»)) (f 1) in
     record {
@@ -133,5 +133,5 @@ unbroken-sound c h =
       requests-most = ltb-false _ _ (f 6);
       transfers-most = ltb-false _ _ (f 7);
       held-most = ltb-false _ _ (f 8);
-      servers = λ y l. server-sound c y (some-server-each 64 (server-broken c) (f 9) y l);
+      servers = λ y l. server-intact c y (some-server-each 64 (server-broken c) (f 9) y l);
     }

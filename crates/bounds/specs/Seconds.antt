@@ -12,9 +12,9 @@ use Rattle.model.specs.Sums.{sum}
 use Rattle.model.specs.SumLaws.{sum-same, sum-beyond, inside, inside-in, inside-high, sum-inside}
 use Rattle.model.specs.Requests.{Requests, Rising}
 use Rattle.model.specs.RequestLaws.{rises-le}
 use Rattle.online.specs.Servers.{across}
 use Rattle.online.specs.ServerLaws.{across-le, across-same, across-add, across-const, across-swap}
-use Rattle.online.specs.History.{recent, last-use, holds, before, over, held}
+use Rattle.bounds.specs.History.{recent, last-use, holds, before, over, held}
 
 -- the seconds that a use still holds after second τ
 unfoldable pub left-of : ℕ → Option ℕ → ℕ → ℕ

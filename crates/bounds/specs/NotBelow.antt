@@ -18,11 +18,11 @@ use Rattle.model.specs.Marking.{Mark, K, S, keeps, some?, legal, begin}
 use Rattle.model.specs.Table.{best}
 use Rattle.model.specs.Exchange.{best-free}
 use Rattle.model.specs.Demand.{spanned, spans-over, Proper, demand}
 use Rattle.online.specs.Servers.{across}
 use Rattle.online.specs.ServerLaws.{across-one}
-use Rattle.online.specs.History.{mark, before, over, held, transfers, running-cost}
-use Rattle.online.specs.HistoryLaws.{kept-sent, Marked, again, back, sent, marked, Link, never, since, link}
-use Rattle.online.specs.Holding.{before-lies, last-over, kept-over}
+use Rattle.bounds.specs.History.{mark, before, over, held, transfers, running-cost}
+use Rattle.bounds.specs.HistoryLaws.{kept-sent, Marked, again, back, sent, marked, Link, never, since, link}
+use Rattle.bounds.specs.Holding.{before-lies, last-over, kept-over}
 
 -- the servers below n, as a list
 abbrev servers : ℕ → List ℕ

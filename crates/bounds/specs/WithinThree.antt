@@ -12,11 +12,11 @@ use Rattle.model.specs.Requests.{Requests, previous, Rising, Within}
 use Rattle.model.specs.RequestLaws.{none-some, rises-le}
 use Rattle.model.specs.Table.{best}
 use Rattle.model.specs.Bounds.{least-own, best-bounded}
 use Rattle.online.specs.Servers.{across}
-use Rattle.online.specs.History.{last-use, held, transfers, running-cost}
-use Rattle.online.specs.HistoryLaws.{Marked, again, back, sent, marked, Link, never, since, link, transfers-S, transfers-K, transfers-most}
-use Rattle.online.specs.Seconds.{held-zero, held-step}
-use Rattle.online.specs.Potential.{left, Moves, moves-again, moves-back, moves-sent, moves-all, left-zero}
+use Rattle.bounds.specs.History.{last-use, held, transfers, running-cost}
+use Rattle.bounds.specs.HistoryLaws.{Marked, again, back, sent, marked, Link, never, since, link, transfers-S, transfers-K, transfers-most}
+use Rattle.bounds.specs.Seconds.{held-zero, held-step}
+use Rattle.bounds.specs.Potential.{left, Moves, moves-again, moves-back, moves-sent, moves-all, left-zero}
 
 -- what the servers below the count still have to hold after request n, but for the last one: each up to its last use plus the window
 unfoldable pub lefts : Prices → Requests → ℕ → ℕ → ℕ

@@ -1,11 +1,11 @@
--- `online::close::times` meets its contract. Assumes nothing.
+-- `online::running::times` meets its contract. Assumes nothing.
 use borrow.Author.Needs.{needs}
 use mathlib.Core.Path.{ap₂}
 use Prim.Native.Nat.{ℕ, _*_, _≤_}
 use native.Mathlib.Nat.{mul-le-mul}
 use native.Mathlib.Omega.{arith}
-use Rattle.online.proofs.close.times.Statement.{statement}
-use Rattle.online.proofs.close.times.Tie as tie
+use Rattle.online.proofs.running.times.Statement.{statement}
+use Rattle.online.proofs.running.times.Tie as tie
 
 wide-requires : tie.Need-wide-requires
 wide-requires c κs = search needs

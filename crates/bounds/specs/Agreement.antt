@@ -10,12 +10,12 @@ use Rattle.base.specs.Choice.{pick, le-or-lt, same-or-not}
 use Rattle.base.specs.Lists.{build-at}
 use Rattle.model.specs.Requests.{Requests}
 use Rattle.model.specs.Marking.{Mark, K, S, keeps}
 use Rattle.online.specs.declared.Cache.{Cache}
 use Rattle.online.specs.ServerLaws.{across-same, has-set}
 use Rattle.online.specs.Rules.{class-prices, window-of, copy-at, use-at, lasts, kept, uses, stands, next-use, seconds, accept}
-use Rattle.online.specs.History.{last-use, mark, held, transfers}
-use Rattle.online.specs.HistoryLaws.{Turn, target, source, other, turn, Marked, again, back, sent, marked, transfers-S, transfers-K}
-use Rattle.online.specs.Seconds.{left-of, left-some, spent, spent-last, spent-other, held-step}
+use Rattle.bounds.specs.History.{last-use, mark, held, transfers}
+use Rattle.bounds.specs.HistoryLaws.{Turn, target, source, other, turn, Marked, again, back, sent, marked, transfers-S, transfers-K}
+use Rattle.bounds.specs.Seconds.{left-of, left-some, spent, spent-last, spent-other, held-step}
 
 -- server y has bit h and last use w in a state after request i: no copy, and its use, if it had one, has expired; or a copy and that use
 pub data Seen (W : ℕ) (q : Requests) (h : Bool) (w i y : ℕ) : Type 0 where

@@ -13,7 +13,7 @@ use Rattle.model.specs.RequestLaws.{none-some, latest-hit, latest-miss, rises-l
 use Rattle.model.specs.Marking.{Mark, K, S, keeps}
 use Rattle.model.specs.Sums.{sum}
 use Rattle.model.specs.Demand as Demand
-use Rattle.online.specs.History.{recent, near, next, last-use, mark, transfers}
+use Rattle.bounds.specs.History.{recent, near, next, last-use, mark, transfers}
 
 -- no mark is K and S at once
 pub kept-sent : {m : Mark} → m ≡ K → m ≡ S → ⊥

@@ -1,0 +1,39 @@
+// The running cost (01: running bill).
+ghost use mathlib.Core.Path.{_≡_};
+ghost use Prim.Native.Nat.{_*_};
+ghost use Rattle.online.specs.Rules.{running};
+ghost use Rattle.online.specs.Answers.{running-answer};
+use crate::Cache;
+use crate::RunningCost;
+use crate::conditions::state_fault;
+use crate::state::wide;
+use base::Verdict;
+use prices::of_class;
+
+// A price, paid a number of times.
+fn times(price: u32, n: u32) -> u64
+    ensures { λ r. ⌜ r ≡ price * n ⌝ }
+{
+    wide(price) * wide(n)
+}
+
+// All holding up to the last request, and all transfers.
+pub fn running_cost(cache: Cache) -> u64
+    ensures { λ r. ⌜ r ≡ running cache ⌝ }
+{
+    let prices = of_class(cache.class);
+    times(prices.hold, cache.held) + times(prices.transfer, cache.transfers)
+}
+
+impl Cache {
+    // The running cost, of a closed state too; or 32.
+    pub fn running(self) -> RunningCost
+        ensures { λ r. ⌜ r ≡ running-answer self ⌝ }
+    {
+        let v = state_fault(self);
+        if let Verdict::Refused(r) = v {
+            return RunningCost::Refused(r);
+        }
+        RunningCost::Cost(running_cost(self))
+    }
+}
