@@ -5,7 +5,7 @@ use Rattle.base.specs.declared.Verdict.{Verdict}
 use Rattle.base.specs.declared.Verdict.the-variants.{Passed, Refused}
 use Rattle.log.specs.Conditions.{verdict-of}
 use Rattle.report.specs.Sheet.{sheet-of}
-use Rattle.report.specs.Text.{refusal-text}
+use Rattle.text.specs.RefusalText.{refusal-text}
 
 -- by the log's verdict: its sheet, or the one line of the refusal
 unfoldable pub output-by : Verdict → List ℕ → List ℕ

@@ -23,7 +23,7 @@ use Rattle.model.specs.Marking.{rows}
 use Rattle.model.specs.Plan.{plan-rows}
 use Rattle.model.specs.RowsCost.{rows-few}
 use Rattle.planner.specs.Answers.{marks-of, planned-rows, rows-of-plan, plan-verdict, least-costs, least-verdict}
-use Rattle.report.specs.Answers.{room-verdict}
+use Rattle.text.specs.Answers.{room-verdict}
 use Rattle.report.specs.Alike.{Alike, state-alike, mark-alike, cost-alike, sheet-alike}
 use Rattle.report.specs.Live.{live-mark, live-cost, live-marks, running-costs, opened}
 use Rattle.report.specs.LiveLaws.{Runs, goes-on}

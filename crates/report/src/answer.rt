@@ -8,11 +8,9 @@ ghost use Rattle.log.specs.Fields.{seconds-of, servers-of};
 ghost use Rattle.log.specs.Conditions.{Accepted};
 ghost use Rattle.log.specs.Answers.{decoded};
 ghost use Rattle.planner.specs.Answers.{marks-of, planned-rows, least-costs};
-ghost use Rattle.report.specs.Answers.{printed};
+ghost use Rattle.text.specs.Answers.{printed};
 ghost use Rattle.report.specs.Sheet.{sheet-of, sheet-verdict};
 ghost use Rattle.report.specs.Replies.{requests-read, rows-planned};
-use crate::Printed;
-use crate::give::give;
 use crate::lines::put_lines;
 use crate::live::give_live;
 use crate::live::open;
@@ -26,6 +24,8 @@ use log::verdict;
 use planner::Planned;
 use planner::least;
 use planner::plan;
+use text::Printed;
+use text::give::give;
 
 // Room for any sheet: 41 bytes, 2,048 lines of at most 109, and at most 26.
 fn room() -> [u8; 223299]

@@ -1,15 +1,10 @@
-// The sheet and the refusal line of 01's 'The sheet', as bytes in a text that is lent.
+// The sheet of 01's 'The sheet', as bytes in a text that is lent.
 mod answer;
-mod give;
 mod lines;
 mod live;
-mod put;
-mod refusal;
 mod widths;
 
 pub use answer::sheet;
-use base::Refusal;
-pub use refusal::refusal_line;
 
 // What a request's line says: its number from 1, second, server, the letters of the plan's and of the online cache's mark, and the least
 // and the running cost of the requests so far.
@@ -21,10 +16,4 @@ pub struct Entry {
     pub live: u8,
     pub least: u64,
     pub cost: u64,
-}
-
-// The length of what was printed, or why nothing was.
-pub enum Printed {
-    Length(u64),
-    Refused(Refusal),
 }

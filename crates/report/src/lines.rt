@@ -2,17 +2,17 @@
 ghost use mathlib.Core.Path.{_≡_};
 ghost use Prim.Native.Nat.{_+_, _*_, _≤_, _<_};
 ghost use lib.ListN.{length, take};
-ghost use Rattle.report.specs.Page.{page, added};
+ghost use Rattle.text.specs.Page.{page, added};
 ghost use Rattle.report.specs.Text.{heading, entry-line, entry-lines, last-line, sheet-text, columns, entry-of};
 use crate::Entry;
-use crate::put::put;
-use crate::put::put_byte;
-use crate::put::put_field;
-use crate::put::put_letter;
-use crate::put::put_number;
 use crate::widths::from_size;
 use crate::widths::from16;
 use crate::widths::from32;
+use text::put::put;
+use text::put::put_byte;
+use text::put::put_field;
+use text::put::put_letter;
+use text::put::put_number;
 
 // The first line.
 pub fn put_heading(text: &mut [u8], at: usize) -> usize

@@ -3,13 +3,13 @@ ghost use mathlib.Core.Path.{_≡_};
 ghost use Prim.Native.Nat.{_≤_};
 ghost use lib.ListN.{length, take};
 ghost use Rattle.report.specs.Output.{output, limit};
-ghost use Rattle.report.specs.Text.{refusal-text};
+ghost use Rattle.text.specs.RefusalText.{refusal-text};
 use base::Refusal;
 use libc::STDIN_FILENO;
 use libc::STDOUT_FILENO;
-use report::Printed;
-use report::refusal_line;
 use report::sheet;
+use text::Printed;
+use text::refusal_line;
 
 // Room for the longest log and one byte more, so that a longer input is refused as it would be whole.
 fn input() -> [u8; 12329]

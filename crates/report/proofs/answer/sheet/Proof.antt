@@ -3,7 +3,7 @@ use borrow.Author.Needs.{needs}
 use lib.Seq.{length-take-le}
 use Rattle.log.specs.Conditions.{Accepted}
 use Rattle.report.specs.SheetLaws.{sheet-refused, sheet-accepted}
-use Rattle.report.specs.Answers.{printed}
+use Rattle.text.specs.Answers.{printed}
 use Rattle.base.specs.Lent.{lent}
 use mathlib.Core.Path.{refl, sym, _∙_}
 use lib.ListN.{length}
