@@ -1,10 +1,10 @@
 // The sheet of 01's 'The sheet', as bytes in a text that is lent.
-mod answer;
 mod lines;
 mod live;
+mod sheets;
 mod widths;
 
-pub use answer::sheet;
+pub use sheets::sheet;
 
 // What a request's line says: its number from 1, second, server, the letters of the plan's and of the online cache's mark, and the least
 // and the running cost of the requests so far.

@@ -1,4 +1,4 @@
--- `report::answer::put_sheet` meets its contract. Assumes nothing.
+-- `report::sheets::put_sheet` meets its contract. Assumes nothing.
 use borrow.Author.Needs.{needs}
 use Rattle.report.specs.SheetLaws.{runs-read, sheet-made}
 use Rattle.report.specs.Replies.{requests-read}
@@ -11,8 +11,8 @@ use Rattle.log.specs.Answers.{decoded}
 use Rattle.log.specs.declared.Decoded.{Decoded}
 use mathlib.Core.Path.{_≡_, ap, _∙_}
 use native.Mathlib.Omega.{arith}
-use Rattle.report.proofs.answer.put_sheet.Statement.{statement}
-use Rattle.report.proofs.answer.put_sheet.Tie as tie
+use Rattle.report.proofs.sheets.put_sheet.Statement.{statement}
+use Rattle.report.proofs.sheets.put_sheet.Tie as tie
 
 slice-aggregate-read-requests : tie.Need-slice-aggregate-read-requests
 slice-aggregate-read-requests c = search needs

@@ -1,12 +1,12 @@
--- `report::answer::find_least` meets its contract. Assumes nothing.
+-- `report::sheets::find_least` meets its contract. Assumes nothing.
 use borrow.Author.Needs.{needs}
 use Rattle.report.specs.SheetLaws.{least-passes}
 use Rattle.planner.specs.Answers.{least-verdict}
 use Rattle.base.specs.declared.Verdict.the-variants.{Passed}
 use mathlib.Core.Path.{_≡_}
 use lib.ListN.{length}
-use Rattle.report.proofs.answer.find_least.Statement.{statement}
-use Rattle.report.proofs.answer.find_least.Tie as tie
+use Rattle.report.proofs.sheets.find_least.Statement.{statement}
+use Rattle.report.proofs.sheets.find_least.Tie as tie
 
 least-requires : tie.Need-least-requires
 least-requires c κs = search needs

@@ -1,4 +1,4 @@
--- `report::answer::sheet` meets its contract. Assumes nothing.
+-- `report::sheets::sheet` meets its contract. Assumes nothing.
 use borrow.Author.Needs.{needs}
 use lib.Seq.{length-take-le}
 use Rattle.log.specs.Conditions.{Accepted}
@@ -7,8 +7,8 @@ use Rattle.text.specs.Answers.{printed}
 use Rattle.base.specs.Lent.{lent}
 use mathlib.Core.Path.{refl, sym, _∙_}
 use lib.ListN.{length}
-use Rattle.report.proofs.answer.sheet.Statement.{statement}
-use Rattle.report.proofs.answer.sheet.Tie as tie
+use Rattle.report.proofs.sheets.sheet.Statement.{statement}
+use Rattle.report.proofs.sheets.sheet.Tie as tie
 
 verdict-requires : tie.Need-verdict-requires
 verdict-requires c κs = search needs

@@ -1,9 +1,9 @@
--- `report::answer::request_count` meets its contract. Assumes nothing.
+-- `report::sheets::request_count` meets its contract. Assumes nothing.
 use borrow.Author.Needs.{needs}
 use mathlib.Core.Path.{refl}
 use Rattle.report.specs.Replies.{requests-read}
-use Rattle.report.proofs.answer.request_count.Statement.{statement}
-use Rattle.report.proofs.answer.request_count.Tie as tie
+use Rattle.report.proofs.sheets.request_count.Statement.{statement}
+use Rattle.report.proofs.sheets.request_count.Tie as tie
 
 enum-known-outcome : tie.Need-enum-known-outcome
 enum-known-outcome c = search needs

@@ -1,9 +1,9 @@
--- `report::answer::row_count` meets its contract. Assumes nothing.
+-- `report::sheets::row_count` meets its contract. Assumes nothing.
 use borrow.Author.Needs.{needs}
 use mathlib.Core.Path.{refl}
 use Rattle.report.specs.Replies.{rows-planned}
-use Rattle.report.proofs.answer.row_count.Statement.{statement}
-use Rattle.report.proofs.answer.row_count.Tie as tie
+use Rattle.report.proofs.sheets.row_count.Statement.{statement}
+use Rattle.report.proofs.sheets.row_count.Tie as tie
 
 enum-known-planned : tie.Need-enum-known-planned
 enum-known-planned c = search needs

@@ -1,12 +1,12 @@
--- `report::answer::read_requests` meets its contract. Assumes nothing.
+-- `report::sheets::read_requests` meets its contract. Assumes nothing.
 use borrow.Author.Needs.{needs}
 use Rattle.report.specs.SheetLaws.{read-passes}
 use Rattle.log.specs.Answers.{read-verdict}
 use Rattle.base.specs.declared.Verdict.the-variants.{Passed}
 use mathlib.Core.Path.{_≡_}
 use lib.ListN.{length}
-use Rattle.report.proofs.answer.read_requests.Statement.{statement}
-use Rattle.report.proofs.answer.read_requests.Tie as tie
+use Rattle.report.proofs.sheets.read_requests.Statement.{statement}
+use Rattle.report.proofs.sheets.read_requests.Tie as tie
 
 read-requires : tie.Need-read-requires
 read-requires c κs = search needs

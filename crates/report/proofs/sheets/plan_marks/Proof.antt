@@ -1,4 +1,4 @@
--- `report::answer::plan_marks` meets its contract. Assumes nothing.
+-- `report::sheets::plan_marks` meets its contract. Assumes nothing.
 use borrow.Author.Needs.{needs}
 use Rattle.report.specs.SheetLaws.{plan-passes}
 use Rattle.report.specs.Replies.{rows-planned}
@@ -6,8 +6,8 @@ use Rattle.planner.specs.Answers.{plan-verdict, planned}
 use Rattle.base.specs.declared.Verdict.the-variants.{Passed}
 use mathlib.Core.Path.{_≡_, refl, _∙_}
 use lib.ListN.{length}
-use Rattle.report.proofs.answer.plan_marks.Statement.{statement}
-use Rattle.report.proofs.answer.plan_marks.Tie as tie
+use Rattle.report.proofs.sheets.plan_marks.Statement.{statement}
+use Rattle.report.proofs.sheets.plan_marks.Tie as tie
 
 slice-aggregate-plan : tie.Need-slice-aggregate-plan
 slice-aggregate-plan c = search needs
