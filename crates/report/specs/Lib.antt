@@ -1,4 +1,5 @@
 -- Crate report. What a reader believes:
+pub mod Sizes
 pub mod Text
 pub mod Live
 pub mod Sheet

@@ -15,11 +15,12 @@ use Rattle.text.specs.AnswerLaws.{room-passed}
 use Rattle.text.specs.PrintedLaws.{stands}
 use Rattle.text.specs.RefusalText.{refusal-text}
 use Rattle.report.specs.Output.{output-by, output}
+use Rattle.report.specs.Sizes.{sheet-room}
 use Rattle.report.specs.Sheet.{sheet-of, sheet-verdict}
 use Rattle.report.specs.SheetLaws.{sheet-refused, sheet-accepted}
 use Rattle.report.specs.SheetLength.{sheet-fits}
 
-module _ (log text : List ℕ) (room : 223299 ≤ length text) where
+module _ (log text : List ℕ) (room : sheet-room ≤ length text) where
   -- an accepted log's sheet is printed
   printed-sheet : Accepted log → sheet-verdict log (length text) ≡ Passed
   printed-sheet a = sheet-accepted log (length text) a ∙ room-passed (sheet-of log) (length text) (omega (arith, sheet-fits log a))

@@ -3,16 +3,18 @@ use mathlib.Core.Path.{_≡_, sym}
 use Prim.Native.Nat.{ℕ, suc, _*_, _^_, _≤_, _<_}
 use native.Mathlib.Omega.{arith}
 use lib.ListN.{length, length-append}
+use Rattle.log.specs.Sizes.{most-requests}
 use Rattle.text.specs.DecimalLaws.{decimal-length}
 use Rattle.text.specs.Lines.{ascii, line, line-end}
 use Rattle.text.specs.Page.{Page, added}
 use Rattle.text.specs.PageLaws.{added-append}
 use Rattle.report.specs.declared.Entry.{Entry}
+use Rattle.report.specs.Sizes.{entry-room, sheet-room}
 use Rattle.report.specs.Text.{entry-line, entry-lines, heading, last-line, sheet-text}
 
--- a request's line has at most 109 bytes
+-- a request's line fits its room
 pub entry-length : (e : Entry) → e .number < 2 ^ 64 → e .second < 2 ^ 64 → e .server < 2 ^ 64 → e .least < 2 ^ 64 → e .cost < 2 ^ 64
-    → length (entry-line e) ≤ 109
+    → length (entry-line e) ≤ entry-room
 unfolding entry-line line line-end ascii
 entry-length e a b c d f =
     simp length-append
@@ -30,8 +32,8 @@ pub lines-next : (e : ℕ → Entry) (k : ℕ) (p : Page) → added (entry-line 
 unfolding entry-lines
 lines-next e k p = sym (added-append (entry-lines e k) (entry-line (e k)) p)
 
-pub lines-longer : (e : ℕ → Entry) (k : ℕ) → length (entry-lines e k) ≤ 109 * k → length (entry-line (e k)) ≤ 109
-    → length (entry-lines e (suc k)) ≤ 109 * suc k
+pub lines-longer : (e : ℕ → Entry) (k : ℕ) → length (entry-lines e k) ≤ entry-room * k → length (entry-line (e k)) ≤ entry-room
+    → length (entry-lines e (suc k)) ≤ entry-room * suc k
 unfolding entry-lines
 lines-longer e k h l = simp length-append (omega arith)
 
@@ -40,9 +42,9 @@ last-length : (rows : ℕ) → rows < 2 ^ 64 → length (last-line rows) ≤ 26
 unfolding last-line line line-end ascii
 last-length rows h = simp length-append (omega (arith, decimal-length 19 rows (omega arith)))
 
--- the sheet of at most 2,048 requests has at most 223,299
-pub sheet-length : (e : ℕ → Entry) (n rows : ℕ) → n ≤ 2048 → rows < 2 ^ 64 → length (entry-lines e n) ≤ 109 * n
-    → length (sheet-text e n rows) ≤ 223299
+-- the sheet of any log's requests fits its room
+pub sheet-length : (e : ℕ → Entry) (n rows : ℕ) → n ≤ most-requests → rows < 2 ^ 64 → length (entry-lines e n) ≤ entry-room * n
+    → length (sheet-text e n rows) ≤ sheet-room
 unfolding sheet-text heading ascii
 sheet-length e n rows h l k = simp length-append (omega (arith, last-length rows l))
 

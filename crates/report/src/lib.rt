@@ -4,6 +4,8 @@ mod live;
 mod sheets;
 mod widths;
 
+use log::LOG_ROOM;
+use log::MOST_REQUESTS;
 pub use sheets::sheet;
 
 // What a request's line says: its number from 1, second, server, the letters of the plan's and of the online cache's mark, and the least
@@ -17,3 +19,9 @@ pub struct Entry {
     pub least: u64,
     pub cost: u64,
 }
+
+// How many bytes of an input are read at most: one more than the longest log has.
+pub const LIMIT: usize = LOG_ROOM + 1;
+
+// Room for any sheet: its first line, one of at most 109 bytes for each request, and its last line.
+pub const SHEET_ROOM: usize = 41 + 109 * MOST_REQUESTS + 26;

@@ -4,13 +4,17 @@ ghost use Prim.Native.Nat.{_≤_};
 ghost use lib.ListN.{length, take};
 ghost use Rattle.base.specs.Lent.{lent};
 ghost use Rattle.base.specs.declared.Verdict.the-variants.{Passed};
+ghost use Rattle.log.specs.Sizes.{most-requests};
 ghost use Rattle.log.specs.Fields.{seconds-of, servers-of};
 ghost use Rattle.log.specs.Conditions.{Accepted};
 ghost use Rattle.log.specs.Answers.{decoded};
+ghost use Rattle.planner.specs.Sizes.{places};
 ghost use Rattle.planner.specs.Answers.{marks-of, planned-rows, least-costs};
 ghost use Rattle.text.specs.Answers.{printed};
+ghost use Rattle.report.specs.Sizes.{sheet-room};
 ghost use Rattle.report.specs.Sheet.{sheet-of, sheet-verdict};
 ghost use Rattle.report.specs.Replies.{requests-read, rows-planned};
+use crate::SHEET_ROOM;
 use crate::lines::put_lines;
 use crate::live::give_live;
 use crate::live::open;
@@ -18,20 +22,23 @@ use crate::widths::from32;
 use crate::widths::size;
 use base::Verdict;
 use log::Decoded;
+use log::MOST_REQUESTS;
 use log::ReadOutcome;
 use log::read;
 use log::verdict;
+use planner::PLACES;
 use planner::Planned;
+use planner::ROWS_ROOM;
 use planner::least;
 use planner::plan;
 use text::Printed;
 use text::give::give;
 
-// Room for any sheet: 41 bytes, 2,048 lines of at most 109, and at most 26.
-fn room() -> [u8; 223299]
-    ensures { λ r. ⌜ 223299 ≡ length r ⌝ }
+// Room for any sheet.
+fn room() -> [u8; SHEET_ROOM]
+    ensures { λ r. ⌜ sheet-room ≡ length r ⌝ }
 {
-    [0u8; 223299]
+    [0u8; SHEET_ROOM]
 }
 
 // The number of requests that were read.
@@ -56,7 +63,7 @@ fn row_count(planned: Planned) -> u64
 
 // The requests of an accepted log.
 fn read_requests(log: &[u8], seconds: &mut [u32], servers: &mut [u16]) -> Decoded
-    requires { ⌜ Accepted (now log) × (length (now seconds) ≡ 2048) × (length (now servers) ≡ 2048) ⌝ }
+    requires { ⌜ Accepted (now log) × (length (now seconds) ≡ most-requests) × (length (now servers) ≡ most-requests) ⌝ }
     ensures { λ r. ⌜ r ≡ decoded Passed (now (log .entry)) ⌝ }
     ensures { λ _. ⌜ now (seconds .exit) ≡ lent Passed (seconds-of (now (log .entry))) (now (seconds .entry)) ⌝ }
     ensures { λ _. ⌜ now (servers .exit) ≡ lent Passed (servers-of (now (log .entry))) (now (servers .entry)) ⌝ }
@@ -66,18 +73,18 @@ fn read_requests(log: &[u8], seconds: &mut [u32], servers: &mut [u16]) -> Decode
 
 // The marks of its plan, and the number of the plan's rows.
 fn plan_marks(log: &[u8], marks: &mut [u8]) -> u64
-    requires { ⌜ Accepted (now log) × (length (now marks) ≡ 2048) ⌝ }
+    requires { ⌜ Accepted (now log) × (length (now marks) ≡ most-requests) ⌝ }
     ensures { λ r. ⌜ r ≡ length (planned-rows (now (log .entry))) ⌝ }
     ensures { λ _. ⌜ now (marks .exit) ≡ lent Passed (marks-of (now (log .entry))) (now (marks .entry)) ⌝ }
 {
-    let mut rows = [0u32; 16384];
+    let mut rows = [0u32; ROWS_ROOM];
     let planned = plan(log, marks, &mut rows);
     row_count(planned)
 }
 
 // The least costs of its first requests.
 fn find_least(log: &[u8], costs: &mut [u64])
-    requires { ⌜ Accepted (now log) × (length (now costs) ≡ 2049) ⌝ }
+    requires { ⌜ Accepted (now log) × (length (now costs) ≡ places) ⌝ }
     ensures { λ _. ⌜ now (costs .exit) ≡ lent Passed (least-costs (now (log .entry))) (now (costs .entry)) ⌝ }
 {
     least(log, costs);
@@ -85,15 +92,15 @@ fn find_least(log: &[u8], costs: &mut [u64])
 
 // The sheet of an accepted log, at the front of a text that has room for any.
 fn put_sheet(log: &[u8], text: &mut [u8]) -> usize
-    requires { ⌜ Accepted (now log) × (223299 ≤ length (now text)) ⌝ }
+    requires { ⌜ Accepted (now log) × (sheet-room ≤ length (now text)) ⌝ }
     ensures { λ r. ⌜ (r ≤ length (now (text .exit))) × (take r (now (text .exit)) ≡ sheet-of (now (log .entry))) ⌝ }
 {
-    let mut seconds = [0u32; 2048];
-    let mut servers = [0u16; 2048];
-    let mut marks = [0u8; 2048];
-    let mut costs = [0u64; 2049];
-    let mut live_marks = [0u8; 2048];
-    let mut live_costs = [0u64; 2048];
+    let mut seconds = [0u32; MOST_REQUESTS];
+    let mut servers = [0u16; MOST_REQUESTS];
+    let mut marks = [0u8; MOST_REQUESTS];
+    let mut costs = [0u64; PLACES];
+    let mut live_marks = [0u8; MOST_REQUESTS];
+    let mut live_costs = [0u64; MOST_REQUESTS];
     let decoded = read_requests(log, &mut seconds, &mut servers);
     let outcome = decoded.outcome;
     let header = decoded.header;

@@ -20,3 +20,7 @@ list-word number = pick (within 31 35 number) (ascii "state") (ascii "input")
 unfoldable pub refusal-text : Refusal → List ℕ
 refusal-text r =
     line (ascii "refused" ∷ list-word (r .number) ∷ decimal (r .number) ∷ ascii "place" ∷ decimal (r .place) ∷ [])
+
+-- room for any such line
+abbrev pub refusal-room : ℕ
+refusal-room = 64

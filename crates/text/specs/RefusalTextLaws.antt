@@ -13,7 +13,7 @@ use Rattle.text.specs.DecimalLaws.{decimal-length}
 use Rattle.text.specs.Lines.{ascii, line, line-end}
 use Rattle.text.specs.Page.{Page, added}
 use Rattle.text.specs.PageLaws.{added-append}
-use Rattle.text.specs.RefusalText.{list-word, refusal-text}
+use Rattle.text.specs.RefusalText.{list-word, refusal-text, refusal-room}
 
 -- its parts
 pub refusal-parts : (r : Refusal) (p : Page)
@@ -47,8 +47,8 @@ list-length n =
       | inr h ↦ ap length (below-state n h)
     ]
 
--- the line has at most 64 bytes
-pub refusal-length : (r : Refusal) → r .number < 2 ^ 64 → r .place < 2 ^ 64 → length (refusal-text r) ≤ 64
+-- the line fits its room
+pub refusal-length : (r : Refusal) → r .number < 2 ^ 64 → r .place < 2 ^ 64 → length (refusal-text r) ≤ refusal-room
 unfolding refusal-text line line-end ascii
 refusal-length r h l =
     simp length-append (omega (arith, list-length (r .number), decimal-length 19 (r .number) (omega arith), decimal-length 19 (r .place) (omega arith)))

@@ -12,3 +12,6 @@ pub enum Printed {
     Length(u64),
     Refused(Refusal),
 }
+
+// Room for the line of any refusal.
+pub const REFUSAL_ROOM: usize = 64;

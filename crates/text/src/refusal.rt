@@ -5,8 +5,9 @@ ghost use lib.ListN.{length, take};
 ghost use Rattle.base.specs.Lent.{lent};
 ghost use Rattle.text.specs.Answers.{room-verdict, printed};
 ghost use Rattle.text.specs.Page.{page, added};
-ghost use Rattle.text.specs.RefusalText.{list-word, refusal-text};
+ghost use Rattle.text.specs.RefusalText.{list-word, refusal-text, refusal-room};
 use crate::Printed;
+use crate::REFUSAL_ROOM;
 use crate::give::give;
 use crate::put::put;
 use crate::put::put_byte;
@@ -27,7 +28,7 @@ fn put_list(text: &mut [u8], at: usize, number: u8) -> usize
 
 // The line, at the front of a text that has room for any.
 fn put_refusal(refusal: Refusal, text: &mut [u8]) -> usize
-    requires { ⌜ 64 ≤ length (now text) ⌝ }
+    requires { ⌜ refusal-room ≤ length (now text) ⌝ }
     ensures { λ r. ⌜ (r ≤ length (now (text .exit))) × (take r (now (text .exit)) ≡ refusal-text refusal) ⌝ }
 {
     let a = put(text, 0, b"refused ");
@@ -43,7 +44,7 @@ pub fn refusal_line(refusal: Refusal, text: &mut [u8]) -> Printed
     ensures { λ r. ⌜ r ≡ printed (room-verdict (refusal-text refusal) (length (now (text .entry)))) (refusal-text refusal) ⌝ }
     ensures { λ _. ⌜ now (text .exit) ≡ lent (room-verdict (refusal-text refusal) (length (now (text .entry)))) (refusal-text refusal) (now (text .entry)) ⌝ }
 {
-    let mut line = [0u8; 64];
+    let mut line = [0u8; REFUSAL_ROOM];
     let n = put_refusal(refusal, &mut line);
     give(&line[..n], text)
 }

@@ -2,6 +2,7 @@
 use borrow.Author.Needs.{needs}
 use Rattle.report.specs.SheetLaws.{plan-passes}
 use Rattle.report.specs.Replies.{rows-planned}
+use Rattle.planner.specs.Sizes.{rows-room}
 use Rattle.planner.specs.Answers.{plan-verdict, planned}
 use Rattle.base.specs.declared.Verdict.the-variants.{Passed}
 use mathlib.Core.Path.{_≡_, refl, _∙_}
@@ -26,7 +27,7 @@ unfolding planned rows-planned
 returns c =
     let s = c .before .before .before .before .before .before .before .before .before in
     let a = s .args in
-    let v : plan-verdict (a .log .now) (length (a .marks .now)) 16384 ≡ Passed = rw (s .pre .1) (plan-passes (a .log .now) (s .pre .0)) in
+    let v : plan-verdict (a .log .now) (length (a .marks .now)) rows-room ≡ Passed = rw (s .pre .1) (plan-passes (a .log .now) (s .pre .0)) in
     let p = c .before .before .before .before .plan .ensures in
     (c .row-count .ensures ∙ rw (p .0, v) refl, rw (← v) (p .1 .0))
 
