@@ -25,9 +25,9 @@ use Rattle.log.specs.AcceptedLaws.{seconds-length, servers-length}
 use Rattle.log.specs.EncodeLaws.{Sixteen, encode-length}
 use Rattle.checker.specs.Answers.{check-conditions, check-verdict-of}
 use Rattle.planner.specs.Answers.{marks-of, rows-of-plan, plan-verdict, least-costs, least-verdict}
-use Rattle.report.specs.Answers.{room-verdict}
+use Rattle.text.specs.Answers.{room-verdict}
 use Rattle.report.specs.Sheet.{sheet-of, sheet-verdict}
-use Rattle.report.specs.Text.{refusal-text}
+use Rattle.text.specs.RefusalText.{refusal-text}
 use Rattle.online.specs.declared.Cache.{Cache}
 use Rattle.online.specs.Conditions.{scan-conditions, running-conditions, close-conditions}
 use Rattle.online.specs.Rules.{zeros}

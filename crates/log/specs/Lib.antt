@@ -1,4 +1,5 @@
 -- The log: what 01's 'The log' and its conditions 1 to 13 say, and the theorems about it.
+pub mod Sizes
 pub mod Fields
 pub mod Sum
 pub mod SumLaws

@@ -44,3 +44,9 @@ pub enum Written {
     Length(u64),
     Refused(Refusal),
 }
+
+// The most requests of a log.
+pub const MOST_REQUESTS: usize = 2048;
+
+// Room for any log.
+pub const LOG_ROOM: usize = 40 + 6 * MOST_REQUESTS;

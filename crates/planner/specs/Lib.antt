@@ -1,5 +1,6 @@
 -- The planner: what its calls answer, and the laws by which the code comes by it.
 pub mod Answers
+pub mod Sizes
 pub mod Asked
 pub mod Terms
 pub mod Fits

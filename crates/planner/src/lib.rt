@@ -11,6 +11,7 @@ mod walk;
 pub use answer::plan;
 use base::Refusal;
 pub use costs::least;
+use log::MOST_REQUESTS;
 
 // The plan's cost and the number of its rows, or why there is no plan.
 pub enum Planned {
@@ -26,3 +27,9 @@ pub enum LeastCosts {
 
 // What stands for the previous request of a request that has none.
 const NONE: u16 = 65535;
+
+// Home and the requests, or the costs of the first 0, 1, 2, .. requests.
+pub const PLACES: usize = 1 + MOST_REQUESTS;
+
+// Room for the numbers of any plan's rows: two rows for each request, four numbers for each row.
+pub const ROWS_ROOM: usize = 4 * (2 * MOST_REQUESTS);

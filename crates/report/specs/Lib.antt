@@ -1,19 +1,15 @@
--- The definitions of crate report, and their laws.
-pub mod Decimal
-pub mod DecimalLaws
-pub mod Page
-pub mod PageLaws
+-- Crate report. What a reader believes:
+pub mod Sizes
 pub mod Text
-pub mod TextLaws
 pub mod Live
-pub mod Replies
-pub mod LiveLaws
-pub mod Answers
-pub mod AnswerLaws
 pub mod Sheet
+pub mod Output
+pub mod Replies
+-- and the laws of these:
+pub mod TextLaws
+pub mod LiveLaws
+pub mod Alike
 pub mod SheetLaws
 pub mod SheetLength
-pub mod Alike
-pub mod Output
 pub mod OutputLaws
 pub mod LongInput

@@ -17,6 +17,7 @@ use Rattle.base.specs.RefusalLaws.{otherwise, first-append, first-met, first-pa
 use Rattle.base.specs.declared.Refusal.{Refusal}
 use Rattle.base.specs.declared.Verdict.{Verdict}
 use Rattle.base.specs.declared.Verdict.the-variants.{Passed, Refused}
+use Rattle.log.specs.Sizes.{most-requests, log-room}
 use Rattle.log.specs.Fields.{version, class-of, server-count, home-of, setup-of, request-count, requests-offset, id-offset, total-length, written-sum, length-for}
 use Rattle.log.specs.Sum.{sum-of}
 use Rattle.log.specs.Conditions.{setup-conditions, header-conditions, log-conditions, verdict-of}
@@ -30,7 +31,7 @@ early s =
     ∷ refuse 2 0 (not (eqb (version s) 1))
     ∷ (setup-conditions (setup-of s)
     ++ (refuse 6 0 (not (eqb (byte s 5) 0))
-    ∷ refuse 7 0 (ltb 2048 (request-count s))
+    ∷ refuse 7 0 (ltb most-requests (request-count s))
     ∷ refuse 8 0
     (either (not (eqb (requests-offset s) 40))
     (either (not (eqb (id-offset s) 24)) (not (eqb (total-length s) (length-for (request-count s))))))
@@ -49,14 +50,14 @@ abbrev by-form : List ℕ → Verdict
 by-form s = otherwise (first (early s)) (Refused (record { number = 9; place = 0 }))
 
 -- what refuses a log that is longer than any can be
-long-verdict : (s : List ℕ) → 12328 < length s → verdict-of s ≡ by-form s
+long-verdict : (s : List ℕ) → log-room < length s → verdict-of s ≡ by-form s
 unfolding verdict-of log-conditions header-conditions setup-conditions length-for
 long-verdict s h = first-append (early s) (ninth s ∷ late s) ∙ go (first (early s)) refl
   where
     go : (v : Verdict) → first (early s) ≡ v → otherwise (first (early s)) (first (ninth s ∷ late s)) ≡ by-form s
     go Passed e =
         let f = first-passed (early s) .0 e in
-        let few : request-count s ≤ 2048 = ltb-false 2048 (request-count s) (f 6) in
+        let few : request-count s ≤ most-requests = ltb-false most-requests (request-count s) (f 6) in
         let a = not (eqb (requests-offset s) 40) in
         let b = not (eqb (id-offset s) 24) in
         let d = eqb (total-length s) (length-for (request-count s)) in

@@ -1,11 +1,12 @@
 -- What the program writes for an input (01's 'The sheet'). Assumes nothing.
 use mathlib.Core.List.{List}
-use Prim.Native.Nat.{ℕ}
+use Prim.Native.Nat.{ℕ, _+_}
 use Rattle.base.specs.declared.Verdict.{Verdict}
 use Rattle.base.specs.declared.Verdict.the-variants.{Passed, Refused}
+use Rattle.log.specs.Sizes.{log-room}
 use Rattle.log.specs.Conditions.{verdict-of}
 use Rattle.report.specs.Sheet.{sheet-of}
-use Rattle.report.specs.Text.{refusal-text}
+use Rattle.text.specs.RefusalText.{refusal-text}
 
 -- by the log's verdict: its sheet, or the one line of the refusal
 unfoldable pub output-by : Verdict → List ℕ → List ℕ
@@ -18,4 +19,4 @@ output log = output-by (verdict-of log) log
 
 -- how many bytes of an input are read at most: one more than the longest log has
 unfoldable pub limit : ℕ
-limit = 12329
+limit = log-room + 1

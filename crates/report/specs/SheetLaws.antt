@@ -11,6 +11,7 @@ use Rattle.base.specs.RefusalLaws.{otherwise, first-append}
 use Rattle.base.specs.declared.Refusal.{Refusal}
 use Rattle.base.specs.declared.Verdict.{Verdict}
 use Rattle.base.specs.declared.Verdict.the-variants.{Passed, Refused}
+use Rattle.log.specs.Sizes.{most-requests}
 use Rattle.log.specs.Fields.{request-count, server-count, seconds-of, servers-of}
 use Rattle.log.specs.Conditions.{Accepted, log-conditions, verdict-of}
 use Rattle.log.specs.AcceptedLaws.{accepted-sound}
@@ -22,8 +23,9 @@ use Rattle.model.specs.LogRequestLaws.{log-within}
 use Rattle.model.specs.Marking.{rows}
 use Rattle.model.specs.Plan.{plan-rows}
 use Rattle.model.specs.RowsCost.{rows-few}
+use Rattle.planner.specs.Sizes.{places, rows-room}
 use Rattle.planner.specs.Answers.{marks-of, planned-rows, rows-of-plan, plan-verdict, least-costs, least-verdict}
-use Rattle.report.specs.Answers.{room-verdict}
+use Rattle.text.specs.Answers.{room-verdict}
 use Rattle.report.specs.Alike.{Alike, state-alike, mark-alike, cost-alike, sheet-alike}
 use Rattle.report.specs.Live.{live-mark, live-cost, live-marks, running-costs, opened}
 use Rattle.report.specs.LiveLaws.{Runs, goes-on}
@@ -49,14 +51,14 @@ sheet-accepted log room a = passed-after log (short (length (sheet-of log)) room
 
 module _ (log : List ℕ) (a : Accepted log) where
   -- it is read
-  pub read-passes : read-verdict log 2048 2048 ≡ Passed
+  pub read-passes : read-verdict log most-requests most-requests ≡ Passed
   unfolding read-verdict first
-  read-passes = passed-after log _ a ∙ rw (le-ltb 2048 (request-count log) (accepted-sound log a .requests-most))
+  read-passes = passed-after log _ a ∙ rw (le-ltb most-requests (request-count log) (accepted-sound log a .requests-most))
 
   -- its least costs are found
-  pub least-passes : least-verdict log 2049 ≡ Passed
+  pub least-passes : least-verdict log places ≡ Passed
   unfolding least-verdict first
-  least-passes = passed-after log _ a ∙ rw (le-ltb 2049 (suc (request-count log)) (omega (arith, accepted-sound log a .requests-most)))
+  least-passes = passed-after log _ a ∙ rw (le-ltb places (suc (request-count log)) (omega (arith, accepted-sound log a .requests-most)))
 
   -- its plan has at most two rows for each request
   pub few-rows : length (planned-rows log) ≤ 2 * request-count log
@@ -64,13 +66,13 @@ module _ (log : List ℕ) (a : Accepted log) where
   few-rows = rows-few (requests-in log) (server-count log) _ (request-count log) _ (log-within log a)
 
   -- and is found
-  pub plan-passes : plan-verdict log 2048 16384 ≡ Passed
+  pub plan-passes : plan-verdict log most-requests rows-room ≡ Passed
   unfolding plan-verdict rows-of-plan first
   plan-passes =
       passed-after log _ a
       ∙ rw (
-        le-ltb 2048 (request-count log) (accepted-sound log a .requests-most),
-        le-ltb 16384 (length (rows-of-plan log)) (omega (arith, flat-length (planned-rows log), few-rows, accepted-sound log a .requests-most)),
+        le-ltb most-requests (request-count log) (accepted-sound log a .requests-most),
+        le-ltb rows-room (length (rows-of-plan log)) (omega (arith, flat-length (planned-rows log), few-rows, accepted-sound log a .requests-most)),
       )
 
   -- the online cache goes through its requests, read from lists that hold them

@@ -1,4 +1,4 @@
--- The sheet of an accepted log has at most 223,299 bytes.
+-- The sheet of an accepted log fits its room.
 use mathlib.Core.List.{List}
 use Prim.Native.Nat.{ℕ, zero, suc, _*_, _^_, _≤_, _<_}
 use native.Mathlib.Omega.{arith}
@@ -17,6 +17,7 @@ use Rattle.online.specs.Widths.{running-fits}
 use Rattle.report.specs.declared.Entry.{Entry}
 use Rattle.report.specs.Live.{live-cost, opened, running-costs}
 use Rattle.report.specs.LiveLaws.{intact-after}
+use Rattle.report.specs.Sizes.{entry-room, sheet-room}
 use Rattle.report.specs.Sheet.{columns-of, sheet-of}
 use Rattle.report.specs.SheetLaws.{few-rows}
 use Rattle.report.specs.Text.{entry-of, entry-line, entry-lines}
@@ -41,7 +42,7 @@ module _ (log : List ℕ) (a : Accepted log) where
   entry = entry-of (columns-of log)
 
   -- a line
-  line-short : (i : ℕ) → i < request-count log → length (entry-line (entry i)) ≤ 109
+  line-short : (i : ℕ) → i < request-count log → length (entry-line (entry i)) ≤ entry-room
   unfolding entry-of columns-of
   line-short i h =
       let f = accepted-sound log a in
@@ -50,13 +51,13 @@ module _ (log : List ℕ) (a : Accepted log) where
       (least-small (suc i) h) (running-small i h)
 
   -- its lines
-  lines-short : (k : ℕ) → k ≤ request-count log → length (entry-lines entry k) ≤ 109 * k
+  lines-short : (k : ℕ) → k ≤ request-count log → length (entry-lines entry k) ≤ entry-room * k
   unfolding entry-lines
   lines-short zero h = omega arith
   lines-short (suc k) h = lines-longer entry k (lines-short k (omega arith)) (line-short k h)
 
   -- all of it
-  pub sheet-fits : length (sheet-of log) ≤ 223299
+  pub sheet-fits : length (sheet-of log) ≤ sheet-room
   unfolding sheet-of
   sheet-fits =
       let few = accepted-sound log a .requests-most in

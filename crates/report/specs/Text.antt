@@ -1,47 +1,10 @@
--- The lines that are printed, byte for byte (01's 'The sheet'). Assumes nothing.
-use mathlib.Core.Bool.{Bool}
+-- The lines of the sheet, byte for byte (01's 'The sheet'). Assumes nothing.
 use mathlib.Core.List.{List, [], _∷_, _++_}
 use Prim.Native.Nat.{ℕ, zero, suc}
-use Prim.Native.Char.{code}
-use Prim.Native.String.{String}
-use Prim.Native.String as string
-use lib.Dec.{leb}
 use lib.ListN.{getD}
-use Rattle.base.specs.Choice.{pick, both}
-use Rattle.base.specs.declared.Refusal.{Refusal}
+use Rattle.text.specs.Decimal.{decimal}
+use Rattle.text.specs.Lines.{ascii, line}
 use Rattle.report.specs.declared.Entry.{Entry}
-use Rattle.report.specs.Decimal.{decimal}
-
--- the codes of a text's characters
-unfoldable pub ascii : String → List ℕ
-ascii string.[] = []
-ascii (string._∷_ c s) = code c ∷ ascii s
-
--- fields parted by one space, and a newline
-unfoldable pub line-end : List (List ℕ) → List ℕ
-line-end [] = ascii "\n"
-line-end (f ∷ fs) = ascii " " ++ (f ++ line-end fs)
-
-unfoldable pub line : List (List ℕ) → List ℕ
-line [] = ascii "\n"
-line (f ∷ fs) = f ++ line-end fs
-
--- ---- a refusal
-
--- n lies from a to b
-abbrev pub within : ℕ → ℕ → ℕ → Bool
-within a b n = both (leb a n) (leb n b)
-
--- 31 to 35 print as state, 1 to 18 as input; so does any other number, which no refusal has
-unfoldable pub list-word : ℕ → List ℕ
-list-word number = pick (within 31 35 number) (ascii "state") (ascii "input")
-
--- as `refused input 13 place 2`
-unfoldable pub refusal-text : Refusal → List ℕ
-refusal-text r =
-    line (ascii "refused" ∷ list-word (r .number) ∷ decimal (r .number) ∷ ascii "place" ∷ decimal (r .place) ∷ [])
-
--- ---- the sheet
 
 -- the first line
 unfoldable pub heading : List ℕ
@@ -73,7 +36,7 @@ last-line rows = line (ascii "rows" ∷ decimal rows ∷ [])
 unfoldable pub sheet-text : (ℕ → Entry) → ℕ → ℕ → List ℕ
 sheet-text e n rows = heading ++ (entry-lines e n ++ last-line rows)
 
--- ---- the columns of the sheet, one list for each
+-- ---- its columns, one list for each
 
 pub record Columns : Type 0 where
   pub seconds : List ℕ

@@ -1,15 +1,12 @@
-// The sheet and the refusal line of 01's 'The sheet', as bytes in a text that is lent.
-mod answer;
-mod give;
+// The sheet of 01's 'The sheet', as bytes in a text that is lent.
 mod lines;
 mod live;
-mod put;
-mod refusal;
+mod sheets;
 mod widths;
 
-pub use answer::sheet;
-use base::Refusal;
-pub use refusal::refusal_line;
+use log::LOG_ROOM;
+use log::MOST_REQUESTS;
+pub use sheets::sheet;
 
 // What a request's line says: its number from 1, second, server, the letters of the plan's and of the online cache's mark, and the least
 // and the running cost of the requests so far.
@@ -23,8 +20,8 @@ pub struct Entry {
     pub cost: u64,
 }
 
-// The length of what was printed, or why nothing was.
-pub enum Printed {
-    Length(u64),
-    Refused(Refusal),
-}
+// How many bytes of an input are read at most: one more than the longest log has.
+pub const LIMIT: usize = LOG_ROOM + 1;
+
+// Room for any sheet: its first line, one of at most 109 bytes for each request, and its last line.
+pub const SHEET_ROOM: usize = 41 + 109 * MOST_REQUESTS + 26;

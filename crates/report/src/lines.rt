@@ -2,17 +2,19 @@
 ghost use mathlib.Core.Path.{_≡_};
 ghost use Prim.Native.Nat.{_+_, _*_, _≤_, _<_};
 ghost use lib.ListN.{length, take};
-ghost use Rattle.report.specs.Page.{page, added};
+ghost use Rattle.log.specs.Sizes.{most-requests};
+ghost use Rattle.text.specs.Page.{page, added};
+ghost use Rattle.report.specs.Sizes.{entry-room, sheet-room};
 ghost use Rattle.report.specs.Text.{heading, entry-line, entry-lines, last-line, sheet-text, columns, entry-of};
 use crate::Entry;
-use crate::put::put;
-use crate::put::put_byte;
-use crate::put::put_field;
-use crate::put::put_letter;
-use crate::put::put_number;
 use crate::widths::from_size;
 use crate::widths::from16;
 use crate::widths::from32;
+use text::put::put;
+use text::put::put_byte;
+use text::put::put_field;
+use text::put::put_letter;
+use text::put::put_number;
 
 // The first line.
 pub fn put_heading(text: &mut [u8], at: usize) -> usize
@@ -24,7 +26,7 @@ pub fn put_heading(text: &mut [u8], at: usize) -> usize
 // A request's line.
 pub fn put_entry(text: &mut [u8], at: usize, entry: Entry) -> usize
     ensures { λ r. ⌜ page r (now (text .exit)) ≡ added (entry-line entry) (page at (now (text .entry))) ⌝ }
-    ensures { λ _. ⌜ length (entry-line entry) ≤ 109 ⌝ }
+    ensures { λ _. ⌜ length (entry-line entry) ≤ entry-room ⌝ }
 {
     let a = put_number(text, at, entry.number);
     let b = put_field(text, a, entry.second);
@@ -83,7 +85,7 @@ pub(crate) fn put_entries(
 ) -> usize
     requires { ⌜ (n ≤ length (now seconds)) × (n ≤ length (now servers)) × (n ≤ length (now plan)) × (n ≤ length (now live)) × (n < length (now least)) × (n ≤ length (now costs)) ⌝ }
     ensures { λ r. ⌜ page r (now (text .exit)) ≡ added (entry-lines (entry-of (columns (now (seconds .entry)) (now (servers .entry)) (now (plan .entry)) (now (live .entry)) (now (least .entry)) (now (costs .entry)))) n) (page at (now (text .entry))) ⌝ }
-    ensures { λ _. ⌜ length (entry-lines (entry-of (columns (now (seconds .entry)) (now (servers .entry)) (now (plan .entry)) (now (live .entry)) (now (least .entry)) (now (costs .entry)))) n) ≤ 109 * n ⌝ }
+    ensures { λ _. ⌜ length (entry-lines (entry-of (columns (now (seconds .entry)) (now (servers .entry)) (now (plan .entry)) (now (live .entry)) (now (least .entry)) (now (costs .entry)))) n) ≤ entry-room * n ⌝ }
 {
     let mut to = at;
     let mut i: usize = 0;
@@ -107,7 +109,7 @@ pub(crate) fn put_lines(
     n: usize,
     rows: u64,
 ) -> usize
-    requires { ⌜ (n ≤ 2048) × (2048 ≤ length (now seconds)) × (2048 ≤ length (now servers)) × (2048 ≤ length (now plan)) × (2048 ≤ length (now live)) × (2048 < length (now least)) × (2048 ≤ length (now costs)) × (223299 ≤ length (now text)) ⌝ }
+    requires { ⌜ (n ≤ most-requests) × (most-requests ≤ length (now seconds)) × (most-requests ≤ length (now servers)) × (most-requests ≤ length (now plan)) × (most-requests ≤ length (now live)) × (most-requests < length (now least)) × (most-requests ≤ length (now costs)) × (sheet-room ≤ length (now text)) ⌝ }
     ensures { λ r. ⌜ (r ≤ length (now (text .exit))) × (take r (now (text .exit)) ≡ sheet-text (entry-of (columns (now (seconds .entry)) (now (servers .entry)) (now (plan .entry)) (now (live .entry)) (now (least .entry)) (now (costs .entry)))) n rows) ⌝ }
 {
     let a = put_heading(text, 0);

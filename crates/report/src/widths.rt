@@ -1,12 +1,6 @@
 // Numbers as wider ones.
 ghost use mathlib.Core.Path.{_≡_};
 
-pub fn from8(n: u8) -> u64
-    ensures { λ r. ⌜ r ≡ n ⌝ }
-{
-    n as u64
-}
-
 pub fn from16(n: u16) -> u64
     ensures { λ r. ⌜ r ≡ n ⌝ }
 {

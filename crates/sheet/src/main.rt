@@ -2,27 +2,30 @@
 ghost use mathlib.Core.Path.{_≡_};
 ghost use Prim.Native.Nat.{_≤_};
 ghost use lib.ListN.{length, take};
+ghost use Rattle.report.specs.Sizes.{sheet-room};
 ghost use Rattle.report.specs.Output.{output, limit};
-ghost use Rattle.report.specs.Text.{refusal-text};
+ghost use Rattle.text.specs.RefusalText.{refusal-text, refusal-room};
 use base::Refusal;
 use libc::STDIN_FILENO;
 use libc::STDOUT_FILENO;
-use report::Printed;
-use report::refusal_line;
+use report::LIMIT;
+use report::SHEET_ROOM;
 use report::sheet;
+use text::Printed;
+use text::refusal_line;
 
 // Room for the longest log and one byte more, so that a longer input is refused as it would be whole.
-fn input() -> [u8; 12329]
+fn input() -> [u8; LIMIT]
     ensures { λ r. ⌜ limit ≡ length r ⌝ }
 {
-    [0u8; 12329]
+    [0u8; LIMIT]
 }
 
 // Room for any sheet.
-fn room() -> [u8; 223299]
-    ensures { λ r. ⌜ 223299 ≡ length r ⌝ }
+fn room() -> [u8; SHEET_ROOM]
+    ensures { λ r. ⌜ sheet-room ≡ length r ⌝ }
 {
-    [0u8; 223299]
+    [0u8; SHEET_ROOM]
 }
 
 fn size(n: u64) -> usize
@@ -33,7 +36,7 @@ fn size(n: u64) -> usize
 
 // The line of a refusal, and its length. It always fits.
 fn refuse(refusal: Refusal, text: &mut [u8]) -> usize
-    requires { ⌜ 64 ≤ length (now text) ⌝ }
+    requires { ⌜ refusal-room ≤ length (now text) ⌝ }
     ensures { λ r. ⌜ (r ≤ length (now (text .exit))) × (take r (now (text .exit)) ≡ refusal-text refusal) ⌝ }
 {
     let printed = refusal_line(refusal, text);
@@ -45,7 +48,7 @@ fn refuse(refusal: Refusal, text: &mut [u8]) -> usize
 
 // All that is written for an input, the sheet or the line of a refusal, and its length.
 fn answer(log: &[u8], text: &mut [u8]) -> usize
-    requires { ⌜ 223299 ≤ length (now text) ⌝ }
+    requires { ⌜ sheet-room ≤ length (now text) ⌝ }
     ensures { λ r. ⌜ (r ≤ length (now (text .exit))) × (take r (now (text .exit)) ≡ output (now (log .entry))) ⌝ }
 {
     let printed = sheet(log, text);

@@ -4,7 +4,7 @@
 use base::Refusal;
 use libc::STDOUT_FILENO;
 use log::Header;
-use report::Printed;
+use text::Printed;
 
 fn print(text: &[u8]) {
     io::write_all(STDOUT_FILENO, text);
@@ -100,7 +100,7 @@ fn line_case(number: u8, place: u64, room: usize) {
     print(b" in");
     print_number(room as u64);
     let refusal = Refusal { number, place };
-    let printed = report::refusal_line(refusal, &mut text[..room]);
+    let printed = text::refusal_line(refusal, &mut text[..room]);
     show(printed, &text, b": ");
 }
 

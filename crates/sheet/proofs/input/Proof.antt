@@ -9,7 +9,7 @@ use Rattle.sheet.proofs.input.Tie as tie
 returns : tie.Need-returns
 unfolding limit
 returns c =
-    sym (length-replicate {A = ℕ} 12329 0)
+    sym (length-replicate {A = ℕ} limit 0)
 
 pub input-spec : {M : Type 1} → statement M
 input-spec = tie.close (tie.spec returns)

@@ -1,7 +1,7 @@
 -- `sheet::refuse` meets its contract. Assumes nothing.
 use borrow.Author.Needs.{needs}
-use Rattle.report.specs.OutputLaws.{line-stands, line-printed}
-use Rattle.report.specs.TextLaws.{refusal-length}
+use Rattle.text.specs.PrintedLaws.{line-stands, line-printed}
+use Rattle.text.specs.RefusalTextLaws.{refusal-length}
 use native.Mathlib.Omega.{arith}
 use mathlib.Core.Path.{sym, _∙_}
 use Rattle.sheet.proofs.refuse.Statement.{statement}

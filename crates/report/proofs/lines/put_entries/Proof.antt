@@ -2,7 +2,7 @@
 use borrow.Author.Needs.{needs}
 use Rattle.report.specs.TextLaws.{lines-next, lines-longer}
 use Rattle.report.specs.Text.{entry-lines, columns, entry-of}
-use Rattle.report.specs.Page.{page, added}
+use Rattle.text.specs.Page.{page, added}
 use lib.ListN.{length}
 use native.Mathlib.Omega.{arith}
 use native.Mathlib.Numerals.{add-one}

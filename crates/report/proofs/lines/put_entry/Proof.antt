@@ -1,9 +1,10 @@
 -- `report::lines::put_entry` meets its contract. Assumes nothing.
 use borrow.Author.Needs.{needs}
 use Rattle.report.specs.TextLaws.{entry-length}
-use Rattle.report.specs.Text.{ascii, line, line-end, entry-line}
-use Rattle.report.specs.PageLaws.{added-append}
-use Rattle.report.specs.Page.{added}
+use Rattle.text.specs.Lines.{ascii, line, line-end}
+use Rattle.report.specs.Text.{entry-line}
+use Rattle.text.specs.PageLaws.{added-append}
+use Rattle.text.specs.Page.{added}
 use mathlib.Core.Path.{_∙_}
 use Rattle.report.proofs.lines.put_entry.Statement.{statement}
 use Rattle.report.proofs.lines.put_entry.Tie as tie

@@ -1,6 +1,7 @@
 -- `report::lines::put_heading` meets its contract. Assumes nothing.
 use borrow.Author.Needs.{needs}
-use Rattle.report.specs.Text.{ascii, heading}
+use Rattle.text.specs.Lines.{ascii}
+use Rattle.report.specs.Text.{heading}
 use Rattle.report.proofs.lines.put_heading.Statement.{statement}
 use Rattle.report.proofs.lines.put_heading.Tie as tie
 

@@ -1,8 +1,9 @@
 -- `report::lines::put_last` meets its contract. Assumes nothing.
 use borrow.Author.Needs.{needs}
-use Rattle.report.specs.Text.{ascii, line, line-end, last-line}
-use Rattle.report.specs.PageLaws.{added-append}
-use Rattle.report.specs.Page.{added}
+use Rattle.text.specs.Lines.{ascii, line, line-end}
+use Rattle.report.specs.Text.{last-line}
+use Rattle.text.specs.PageLaws.{added-append}
+use Rattle.text.specs.Page.{added}
 use mathlib.Core.Path.{_∙_}
 use Rattle.report.proofs.lines.put_last.Statement.{statement}
 use Rattle.report.proofs.lines.put_last.Tie as tie

@@ -2,8 +2,8 @@
 use borrow.Author.Needs.{needs}
 use Rattle.report.specs.TextLaws.{sheet-parts, sheet-length}
 use Rattle.report.specs.Text.{columns, entry-of, sheet-text}
-use Rattle.report.specs.Page.{page, added}
-use Rattle.report.specs.AnswerLaws.{front-of}
+use Rattle.text.specs.Page.{page, added}
+use Rattle.text.specs.AnswerLaws.{front-of}
 use native.Mathlib.Omega.{arith}
 use mathlib.Core.Path.{_≡_, _∙_}
 use Rattle.report.proofs.lines.put_lines.Statement.{statement}

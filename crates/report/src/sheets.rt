@@ -1,0 +1,144 @@
+// The sheet of a log.
+ghost use mathlib.Core.Path.{_≡_};
+ghost use Prim.Native.Nat.{_≤_};
+ghost use lib.ListN.{length, take};
+ghost use Rattle.base.specs.Lent.{lent};
+ghost use Rattle.base.specs.declared.Verdict.the-variants.{Passed};
+ghost use Rattle.log.specs.Sizes.{most-requests};
+ghost use Rattle.log.specs.Fields.{seconds-of, servers-of};
+ghost use Rattle.log.specs.Conditions.{Accepted};
+ghost use Rattle.log.specs.Answers.{decoded};
+ghost use Rattle.planner.specs.Sizes.{places};
+ghost use Rattle.planner.specs.Answers.{marks-of, planned-rows, least-costs};
+ghost use Rattle.text.specs.Answers.{printed};
+ghost use Rattle.report.specs.Sizes.{sheet-room};
+ghost use Rattle.report.specs.Sheet.{sheet-of, sheet-verdict};
+ghost use Rattle.report.specs.Replies.{requests-read, rows-planned};
+use crate::SHEET_ROOM;
+use crate::lines::put_lines;
+use crate::live::give_live;
+use crate::live::open;
+use crate::widths::from32;
+use crate::widths::size;
+use base::Verdict;
+use log::Decoded;
+use log::MOST_REQUESTS;
+use log::ReadOutcome;
+use log::read;
+use log::verdict;
+use planner::PLACES;
+use planner::Planned;
+use planner::ROWS_ROOM;
+use planner::least;
+use planner::plan;
+use text::Printed;
+use text::give::give;
+
+// Room for any sheet.
+fn room() -> [u8; SHEET_ROOM]
+    ensures { λ r. ⌜ sheet-room ≡ length r ⌝ }
+{
+    [0u8; SHEET_ROOM]
+}
+
+// The number of requests that were read.
+fn request_count(outcome: ReadOutcome) -> usize
+    ensures { λ r. ⌜ r ≡ requests-read outcome ⌝ }
+{
+    match outcome {
+        ReadOutcome::Requests(n) => size(n),
+        ReadOutcome::Refused(_) => 0,
+    }
+}
+
+// The number of a plan's rows.
+fn row_count(planned: Planned) -> u64
+    ensures { λ r. ⌜ r ≡ rows-planned planned ⌝ }
+{
+    match planned {
+        Planned::Plan { cost: _, rows } => from32(rows),
+        Planned::Refused(_) => 0,
+    }
+}
+
+// The requests of an accepted log.
+fn read_requests(log: &[u8], seconds: &mut [u32], servers: &mut [u16]) -> Decoded
+    requires { ⌜ Accepted (now log) × (length (now seconds) ≡ most-requests) × (length (now servers) ≡ most-requests) ⌝ }
+    ensures { λ r. ⌜ r ≡ decoded Passed (now (log .entry)) ⌝ }
+    ensures { λ _. ⌜ now (seconds .exit) ≡ lent Passed (seconds-of (now (log .entry))) (now (seconds .entry)) ⌝ }
+    ensures { λ _. ⌜ now (servers .exit) ≡ lent Passed (servers-of (now (log .entry))) (now (servers .entry)) ⌝ }
+{
+    read(log, seconds, servers)
+}
+
+// The marks of its plan, and the number of the plan's rows.
+fn plan_marks(log: &[u8], marks: &mut [u8]) -> u64
+    requires { ⌜ Accepted (now log) × (length (now marks) ≡ most-requests) ⌝ }
+    ensures { λ r. ⌜ r ≡ length (planned-rows (now (log .entry))) ⌝ }
+    ensures { λ _. ⌜ now (marks .exit) ≡ lent Passed (marks-of (now (log .entry))) (now (marks .entry)) ⌝ }
+{
+    let mut rows = [0u32; ROWS_ROOM];
+    let planned = plan(log, marks, &mut rows);
+    row_count(planned)
+}
+
+// The least costs of its first requests.
+fn find_least(log: &[u8], costs: &mut [u64])
+    requires { ⌜ Accepted (now log) × (length (now costs) ≡ places) ⌝ }
+    ensures { λ _. ⌜ now (costs .exit) ≡ lent Passed (least-costs (now (log .entry))) (now (costs .entry)) ⌝ }
+{
+    least(log, costs);
+}
+
+// The sheet of an accepted log, at the front of a text that has room for any.
+fn put_sheet(log: &[u8], text: &mut [u8]) -> usize
+    requires { ⌜ Accepted (now log) × (sheet-room ≤ length (now text)) ⌝ }
+    ensures { λ r. ⌜ (r ≤ length (now (text .exit))) × (take r (now (text .exit)) ≡ sheet-of (now (log .entry))) ⌝ }
+{
+    let mut seconds = [0u32; MOST_REQUESTS];
+    let mut servers = [0u16; MOST_REQUESTS];
+    let mut marks = [0u8; MOST_REQUESTS];
+    let mut costs = [0u64; PLACES];
+    let mut live_marks = [0u8; MOST_REQUESTS];
+    let mut live_costs = [0u64; MOST_REQUESTS];
+    let decoded = read_requests(log, &mut seconds, &mut servers);
+    let outcome = decoded.outcome;
+    let header = decoded.header;
+    let n = request_count(outcome);
+    let rows = plan_marks(log, &mut marks);
+    find_least(log, &mut costs);
+    let cache = open(header);
+    give_live(
+        cache,
+        &seconds,
+        &servers,
+        n,
+        &mut live_marks,
+        &mut live_costs,
+    );
+    put_lines(
+        text,
+        &seconds,
+        &servers,
+        &marks,
+        &live_marks,
+        &costs,
+        &live_costs,
+        n,
+        rows,
+    )
+}
+
+// The sheet of a log and zeros after it; refused with 1 to 13 or 31, the text as it was.
+pub fn sheet(log: &[u8], text: &mut [u8]) -> Printed
+    ensures { λ r. ⌜ r ≡ printed (sheet-verdict (now (log .entry)) (length (now (text .entry)))) (sheet-of (now (log .entry))) ⌝ }
+    ensures { λ _. ⌜ now (text .exit) ≡ lent (sheet-verdict (now (log .entry)) (length (now (text .entry)))) (sheet-of (now (log .entry))) (now (text .entry)) ⌝ }
+{
+    let v = verdict(log);
+    if let Verdict::Refused(r) = v {
+        return Printed::Refused(r);
+    }
+    let mut page = room();
+    let n = put_sheet(log, &mut page);
+    give(&page[..n], text)
+}

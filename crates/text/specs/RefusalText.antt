@@ -1,0 +1,26 @@
+-- The line of a refusal (01's 'The sheet'). Assumes nothing.
+use mathlib.Core.Bool.{Bool}
+use mathlib.Core.List.{List, [], _∷_}
+use Prim.Native.Nat.{ℕ}
+use lib.Dec.{leb}
+use Rattle.base.specs.Choice.{pick, both}
+use Rattle.base.specs.declared.Refusal.{Refusal}
+use Rattle.text.specs.Decimal.{decimal}
+use Rattle.text.specs.Lines.{ascii, line}
+
+-- n lies from a to b
+abbrev pub within : ℕ → ℕ → ℕ → Bool
+within a b n = both (leb a n) (leb n b)
+
+-- 31 to 35 print as state, 1 to 18 as input; so does any other number, which no refusal has
+unfoldable pub list-word : ℕ → List ℕ
+list-word number = pick (within 31 35 number) (ascii "state") (ascii "input")
+
+-- as `refused input 13 place 2`
+unfoldable pub refusal-text : Refusal → List ℕ
+refusal-text r =
+    line (ascii "refused" ∷ list-word (r .number) ∷ decimal (r .number) ∷ ascii "place" ∷ decimal (r .place) ∷ [])
+
+-- room for any such line
+abbrev pub refusal-room : ℕ
+refusal-room = 64

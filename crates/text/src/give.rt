@@ -1,0 +1,27 @@
+// A text that stands ready, into what is lent.
+ghost use mathlib.Core.Path.{_≡_};
+ghost use lib.ListN.{length};
+ghost use Rattle.base.specs.Lent.{lent};
+ghost use Rattle.text.specs.Answers.{room-verdict, printed};
+use crate::Printed;
+use crate::widths::from_size;
+use base::Refusal;
+use base::bytes::clear8;
+use base::bytes::copy;
+
+// The text and zeros after it, or 31 where it does not fit.
+pub fn give(from: &[u8], text: &mut [u8]) -> Printed
+    ensures { λ r. ⌜ r ≡ printed (room-verdict (now (from .entry)) (length (now (text .entry)))) (now (from .entry)) ⌝ }
+    ensures { λ _. ⌜ now (text .exit) ≡ lent (room-verdict (now (from .entry)) (length (now (text .entry)))) (now (from .entry)) (now (text .entry)) ⌝ }
+{
+    let n = from.len();
+    if text.len() < n {
+        return Printed::Refused(Refusal {
+            number: 31,
+            place: from_size(n),
+        });
+    }
+    copy(text, 0, from);
+    clear8(text, n);
+    Printed::Length(from_size(n))
+}

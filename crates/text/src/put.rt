@@ -1,0 +1,66 @@
+// Bytes put over a text one after the other. Each call gives the place after what it put; past the end nothing is changed.
+ghost use mathlib.Core.List.{[], _∷_, _++_};
+ghost use mathlib.Core.Path.{_≡_};
+ghost use Prim.Native.Nat.{_+_, _<_};
+ghost use Rattle.text.specs.Decimal.{decimal};
+ghost use Rattle.text.specs.Page.{page, add-byte, added};
+ghost use Rattle.text.specs.Lines.{ascii};
+
+// One byte.
+pub fn put_byte(text: &mut [u8], at: usize, b: u8) -> usize
+    ensures { λ r. ⌜ page r (now (text .exit)) ≡ add-byte b (page at (now (text .entry))) ⌝ }
+{
+    if text.len() <= at {
+        return at;
+    }
+    text[at] = b;
+    at + 1
+}
+
+// The bytes of a slice.
+pub fn put(text: &mut [u8], at: usize, from: &[u8]) -> usize
+    ensures { λ r. ⌜ page r (now (text .exit)) ≡ added (now (from .entry)) (page at (now (text .entry))) ⌝ }
+{
+    let mut to = at;
+    let mut i: usize = 0;
+    while i < from.len() {
+        to = put_byte(text, to, from[i]);
+        i += 1;
+    }
+    to
+}
+
+// A digit as ASCII.
+fn digit(n: u64) -> u8
+    requires { ⌜ n < 10 ⌝ }
+    ensures { λ r. ⌜ r ≡ 48 + n ⌝ }
+{
+    48 + n as u8
+}
+
+// A number in decimal.
+pub fn put_number(text: &mut [u8], at: usize, n: u64) -> usize
+    ensures { λ r. ⌜ page r (now (text .exit)) ≡ added (decimal n) (page at (now (text .entry))) ⌝ }
+{
+    if n < 10 {
+        return put_byte(text, at, digit(n));
+    }
+    let to = put_number(text, at, n / 10);
+    put_byte(text, to, digit(n % 10))
+}
+
+// One space and a number, as a further field of a line.
+pub fn put_field(text: &mut [u8], at: usize, n: u64) -> usize
+    ensures { λ r. ⌜ page r (now (text .exit)) ≡ added (ascii " " ++ decimal n) (page at (now (text .entry))) ⌝ }
+{
+    let to = put_byte(text, at, b' ');
+    put_number(text, to, n)
+}
+
+// One space and a mark's letter, as a further field of a line.
+pub fn put_letter(text: &mut [u8], at: usize, b: u8) -> usize
+    ensures { λ r. ⌜ page r (now (text .exit)) ≡ added (ascii " " ++ (b ∷ [])) (page at (now (text .entry))) ⌝ }
+{
+    let to = put_byte(text, at, b' ');
+    put_byte(text, to, b)
+}
