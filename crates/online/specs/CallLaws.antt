@@ -6,7 +6,8 @@ use mathlib.Core.Path.{_≡_, refl, ap}
 use native.Mathlib.Omega.{arith}
 use Prim.Native.Nat.{ℕ, zero, suc}
 use Rattle.base.specs.Choice.{not-both}
-use Rattle.base.specs.RefusalLaws.{nth, reason, first-refused}
+use Rattle.base.specs.Refusals.{nth, reason}
+use Rattle.base.specs.RefusalLaws.{first-refused}
 use Rattle.base.specs.declared.Refusal.{Refusal}
 use Rattle.base.specs.declared.Verdict.{Verdict}
 use Rattle.base.specs.declared.Verdict.the-variants.{Passed, Refused}

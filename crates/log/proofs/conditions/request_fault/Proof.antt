@@ -1,6 +1,7 @@
 -- `log::conditions::request_fault` meets its contract. Assumes nothing.
 use borrow.Author.Needs.{needs}
-use Rattle.base.specs.RefusalLaws.{from, from-first}
+use Rattle.base.specs.Refusals.{from}
+use Rattle.base.specs.RefusalLaws.{from-first}
 use Rattle.log.proofs.conditions.request_fault.Statement.{statement}
 use Rattle.log.proofs.conditions.request_fault.Tie as tie
 

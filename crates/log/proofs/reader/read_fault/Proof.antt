@@ -1,6 +1,7 @@
 -- `log::reader::read_fault` meets its contract. Assumes nothing.
 use borrow.Author.Needs.{needs}
-use Rattle.base.specs.RefusalLaws.{from, from-first, from-append}
+use Rattle.base.specs.Refusals.{from}
+use Rattle.base.specs.RefusalLaws.{from-first, from-append}
 use Rattle.log.specs.Conditions.{verdict-of}
 use Rattle.log.specs.Answers.{read-verdict}
 use Rattle.log.specs.Fields.{request-count}
