@@ -17,11 +17,9 @@ use Rattle.base.specs.declared.Verdict.the-variants.{Passed, Refused}
 use Rattle.log.specs.Fields.{request-count}
 use Rattle.log.specs.Conditions.{log-conditions, verdict-of, Accepted}
 use Rattle.model.specs.Requests.{Requests, requests, Within}
-use Rattle.model.specs.Marking.{Mark, K, S, legal, rows}
-use Rattle.model.specs.Valid.{Valid}
-use Rattle.model.specs.Ties.{Agree}
+use Rattle.model.specs.Marking.{Mark, K, S, legal, rows, Valid}
 use Rattle.model.specs.TableRows.{Tabled}
-use Rattle.model.specs.Plan.{plan, plan-cost, plan-rows}
+use Rattle.model.specs.Plan.{plan, plan-cost, plan-rows, Agree}
 use Rattle.model.specs.PlanLaws.{plan-planned, plan-best}
 use Rattle.model.specs.LogRequests.{requests-in, prices-in}
 use Rattle.prices.specs.declared.Prices.{Prices}
