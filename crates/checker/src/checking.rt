@@ -13,6 +13,7 @@ use crate::conditions::schedule_fault;
 use crate::rows::row;
 use base::Verdict;
 use base::bytes::at;
+use base::widths::u64_from_u32;
 use log::verdict;
 use prices::Prices;
 use prices::of_class;
@@ -21,12 +22,6 @@ use prices::of_class;
 struct Tally {
     seconds: u64,
     transfers: u64,
-}
-
-fn wide(x: u32) -> u64
-    ensures { λ r. ⌜ (r ≡ x) × (r < 2 ^ 32) ⌝ }
-{
-    x as u64
 }
 
 // The seconds that a row holds.
@@ -39,7 +34,7 @@ fn seconds(r: Quad) -> u64
     if r.c < r.b {
         return 0;
     }
-    wide(r.c - r.b)
+    u64_from_u32(r.c - r.b)
 }
 
 // 1 for a transfer.
@@ -87,7 +82,7 @@ fn cost(p: Prices, ns: &[u32]) -> u64
     ensures { λ r. ⌜ r ≡ check-cost p (now (ns .entry)) ⌝ }
 {
     let s = counted(ns);
-    wide(p.hold) * s.seconds + wide(p.transfer) * s.transfers
+    u64_from_u32(p.hold) * s.seconds + u64_from_u32(p.transfer) * s.transfers
 }
 
 // The cost of a schedule for a log, or the first condition that refuses the log or the schedule.

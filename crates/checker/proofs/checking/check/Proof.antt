@@ -1,4 +1,4 @@
--- `checker::answer::check` meets its contract. Assumes nothing.
+-- `checker::checking::check` meets its contract. Assumes nothing.
 use borrow.Author.Needs.{needs}
 use mathlib.Core.Path.{sym, _∙_}
 use Rattle.log.specs.Conditions.{Accepted}
@@ -6,8 +6,8 @@ use Rattle.log.specs.Fields.{class-of}
 use Rattle.model.specs.LogRequests.{prices-in}
 use Rattle.checker.specs.Answers.{checked}
 use Rattle.checker.specs.AnswerLaws.{log-refused, log-accepted, sums-fit, prices-fit}
-use Rattle.checker.proofs.answer.check.Statement.{statement}
-use Rattle.checker.proofs.answer.check.Tie as tie
+use Rattle.checker.proofs.checking.check.Statement.{statement}
+use Rattle.checker.proofs.checking.check.Tie as tie
 
 verdict-requires : tie.Need-verdict-requires
 verdict-requires c κs = search needs

@@ -1,11 +1,11 @@
--- `checker::answer::seconds` meets its contract. Assumes nothing.
+-- `checker::checking::seconds` meets its contract. Assumes nothing.
 use borrow.Author.Needs.{needs}
 use borrow.Author.Tests.{eq-eqb, ne-eqb}
 use native.Mathlib.Omega.{arith}
 use Rattle.model.specs.RowForm.{row-of}
 use Rattle.model.specs.Schedule.{length-of}
-use Rattle.checker.proofs.answer.seconds.Statement.{statement}
-use Rattle.checker.proofs.answer.seconds.Tie as tie
+use Rattle.checker.proofs.checking.seconds.Statement.{statement}
+use Rattle.checker.proofs.checking.seconds.Tie as tie
 
 returns : tie.Need-returns
 unfolding row-of length-of
@@ -15,12 +15,12 @@ returns-2 : tie.Need-returns-2
 unfolding row-of length-of
 returns-2 c = rw (eq-eqb _ _ (c .before .before .if1 .left)) (omega arith)
 
-wide-requires : tie.Need-wide-requires
-wide-requires c κs = search needs
+u64-from-u32-requires : tie.Need-u64-from-u32-requires
+u64-from-u32-requires c κs = search needs
 
 returns-3 : tie.Need-returns-3
 unfolding row-of length-of
-returns-3 c = rw (eq-eqb _ _ (c .before .before .before .before .if1 .left)) (c .wide .ensures .0)
+returns-3 c = rw (eq-eqb _ _ (c .before .before .before .before .if1 .left)) (c .u64-from-u32 .ensures .0)
 
 pub seconds-spec : {M : Type 1} → statement M
-seconds-spec = tie.close (tie.spec returns returns-2 wide-requires returns-3)
+seconds-spec = tie.close (tie.spec returns returns-2 u64-from-u32-requires returns-3)

@@ -1,4 +1,4 @@
--- `checker::answer::counted` meets its contract. Assumes nothing.
+-- `checker::checking::counted` meets its contract. Assumes nothing.
 use borrow.Author.Needs.{needs}
 use mathlib.Core.Path.{_≡_, refl, _∙_}
 use Prim.Native.Nat.{_≤_, _-_}
@@ -8,8 +8,8 @@ use Rattle.model.specs.Schedule.{length-of, is-transfer}
 use Rattle.model.specs.RowForm.{rows-upto, rows-of}
 use Rattle.model.specs.Checking.{row-count}
 use Rattle.checker.specs.CostLaws.{total-read, total-within}
-use Rattle.checker.proofs.answer.counted.Statement.{statement}
-use Rattle.checker.proofs.answer.counted.Tie as tie
+use Rattle.checker.proofs.checking.counted.Statement.{statement}
+use Rattle.checker.proofs.checking.counted.Tie as tie
 
 abbrev Inv-loop : tie.InvT-loop
 Inv-loop ns n s₀ i₀ s i = (i ≤ n) × (s .seconds ≡ total length-of (rows-upto ns i)) × (s .transfers ≡ total is-transfer (rows-upto ns i))

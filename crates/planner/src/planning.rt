@@ -12,7 +12,6 @@ ghost use Rattle.planner.specs.PlanAnswer.{Marked, Answered, Plan-answer
 use crate::Planned;
 use crate::holders::holders;
 use crate::holders::row_count;
-use crate::reads::size;
 use crate::requests::Loaded;
 use crate::requests::Setup;
 use crate::requests::load;
@@ -23,6 +22,9 @@ use base::Refusal;
 use base::bytes::clear8;
 use base::bytes::clear32;
 use base::bytes::copy;
+use base::widths::size_from_u16;
+use base::widths::size_from_u32;
+use base::widths::u64_from_size;
 
 // 31: an output is shorter than what is needed.
 fn short(needed: usize) -> Planned
@@ -30,14 +32,8 @@ fn short(needed: usize) -> Planned
 {
     Planned::Refused(Refusal {
         number: 31,
-        place: needed as u64,
+        place: u64_from_size(needed),
     })
-}
-
-fn wide(x: u32) -> usize
-    ensures { λ r. ⌜ (r ≡ x) × (r < 4294967296) ⌝ }
-{
-    x as usize
 }
 
 // The answer, from the marks of n requests and their cost.
@@ -56,8 +52,8 @@ fn answer(
 {
     let words = holders(servers, letters, n);
     let found = row_count(&words, letters, n);
-    let end = size(n);
-    let needed = 4 * wide(found);
+    let end = size_from_u16(n);
+    let needed = 4 * size_from_u32(found);
     if marks.len() < end {
         return short(end);
     }
@@ -110,7 +106,7 @@ fn plan_of(
     answer(
         n,
         setup.server_count,
-        costs[size(n)],
+        costs[size_from_u16(n)],
         seconds,
         servers,
         &letters,

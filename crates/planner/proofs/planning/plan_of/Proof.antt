@@ -1,12 +1,12 @@
--- `planner::answer::plan_of` meets its contract. Assumes nothing.
+-- `planner::planning::plan_of` meets its contract. Assumes nothing.
 use Rattle.planner.specs.Asked.{asks}
 use Rattle.planner.specs.FillLaws.{filled-tabled}
 use Rattle.planner.specs.PlanRight.{spelt-front, lettered-front, cost-front, plan-marked, plan-answered}
 use native.Mathlib.Omega.{arith}
 use borrow.Author.Needs.{needs}
-use Rattle.planner.proofs.answer.plan_of.Statement.{statement}
-use Rattle.planner.proofs.answer.plan_of.Tie as tie
-use Rattle.planner.proofs.answer.plan_of.Reads as reads
+use Rattle.planner.proofs.planning.plan_of.Statement.{statement}
+use Rattle.planner.proofs.planning.plan_of.Tie as tie
+use Rattle.planner.proofs.planning.plan_of.Reads as reads
 
 slice-aggregate-fill : tie.Need-slice-aggregate-fill
 slice-aggregate-fill c = search needs
@@ -42,8 +42,8 @@ write-marks-requires c κs =
       ),
     )
 
-size-requires : tie.Need-size-requires
-size-requires c κs = search needs
+size-from-u16-requires : tie.Need-size-from-u16-requires
+size-from-u16-requires c κs = search needs
 
 mul-answer : tie.Need-mul-answer
 mul-answer c = search needs
@@ -84,7 +84,7 @@ returns c =
     plan-answered p n (a .setup .«server_count») (a .seconds .now) (a .servers .now) _ few (s .pre .1 .0) (s .pre .1 .1)
     (lettered-front p q n _ _ (w .write-marks .ensures))
     (spelt-front p q n _ _ (w .write-marks .ensures)) _ (a .marks .now) (a .rows .now) _ _ _
-    (cost-front p q n _ _ _ (filled-tabled p q n _ _ _ _ (f .fill .ensures .0) (f .fill .ensures .1)) (c .before .before .before .before .before .before .before .before .before .before .size .ensures .0))
+    (cost-front p q n _ _ _ (filled-tabled p q n _ _ _ _ (f .fill .ensures .0) (f .fill .ensures .1)) (c .before .before .before .before .before .before .before .before .before .before .size-from-u16 .ensures .0))
     (c .before .before .before .before .answer .ensures)
 
 pub plan-of-spec : {M : Type 1} → statement M
@@ -98,7 +98,7 @@ plan-of-spec =
     slice-aggregate-write-marks-2
     slice-aggregate-write-marks-3
     write-marks-requires
-    size-requires
+    size-from-u16-requires
     mul-answer
     array-read-answer
     slice-aggregate-answer

@@ -1,4 +1,4 @@
--- `planner::answer::plan` meets its contract. Assumes nothing.
+-- `planner::planning::plan` meets its contract. Assumes nothing.
 use Rattle.planner.specs.Loading.{setup-of}
 use Rattle.planner.specs.SetupLaws.{loaded-log, loaded-refused, setup-requests, setup-ready, setup-within}
 use Rattle.planner.specs.PlanAnswer.{answer-of}
@@ -7,8 +7,8 @@ use Rattle.log.specs.AcceptedLaws.{accepted-sound}
 use Rattle.log.specs.Conditions.{verdict-of, Accepted}
 use mathlib.Core.Path.{refl}
 use borrow.Author.Needs.{needs}
-use Rattle.planner.proofs.answer.plan.Statement.{statement}
-use Rattle.planner.proofs.answer.plan.Tie as tie
+use Rattle.planner.proofs.planning.plan.Statement.{statement}
+use Rattle.planner.proofs.planning.plan.Tie as tie
 
 load-requires : tie.Need-load-requires
 load-requires c κs = search needs

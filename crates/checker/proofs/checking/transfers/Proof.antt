@@ -1,9 +1,9 @@
--- `checker::answer::transfers` meets its contract. Assumes nothing.
+-- `checker::checking::transfers` meets its contract. Assumes nothing.
 use borrow.Author.Tests.{eq-eqb, ne-eqb}
 use Rattle.model.specs.RowForm.{row-of}
 use Rattle.model.specs.Schedule.{is-transfer}
-use Rattle.checker.proofs.answer.transfers.Statement.{statement}
-use Rattle.checker.proofs.answer.transfers.Tie as tie
+use Rattle.checker.proofs.checking.transfers.Statement.{statement}
+use Rattle.checker.proofs.checking.transfers.Tie as tie
 
 returns : tie.Need-returns
 unfolding row-of is-transfer
