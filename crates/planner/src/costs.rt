@@ -6,7 +6,7 @@ ghost use lib.ListN.{length};
 ghost use Rattle.base.specs.Lent.{lent};
 ghost use Rattle.base.specs.Refusals.{first, short};
 ghost use Rattle.model.specs.TableLists.{lists};
-ghost use Rattle.planner.specs.Answers.{least-costs, least-verdict, least-answer};
+ghost use Rattle.planner.specs.Answers.{least-verdict, least-answer, costs-left};
 ghost use Rattle.planner.specs.Asked.{asks};
 ghost use Rattle.planner.specs.Fits.{Ready};
 ghost use Rattle.planner.specs.LeastAnswer.{costs-answer};
@@ -64,7 +64,7 @@ fn costs_of(
 // The least cost of each number of a log's first requests, from none to all (01's 'The plan').
 pub fn least(log: &[u8], costs: &mut [u64]) -> LeastCosts
     ensures { λ r. ⌜ r ≡ least-answer (least-verdict (now (log .entry)) (length (now (costs .entry)))) (now (log .entry)) ⌝ }
-    ensures { λ _. ⌜ now (costs .exit) ≡ lent (least-verdict (now (log .entry)) (length (now (costs .entry)))) (least-costs (now (log .entry))) (now (costs .entry)) ⌝ }
+    ensures { λ _. ⌜ now (costs .exit) ≡ costs-left (now (log .entry)) (now (costs .entry)) ⌝ }
 {
     let mut seconds = [0u32; 2049];
     let mut servers = [0u16; 2049];

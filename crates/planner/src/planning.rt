@@ -3,9 +3,8 @@ ghost use mathlib.Core.Path.{_≡_};
 ghost use Prim.Native.Nat.{_<_, _≤_};
 ghost use lib.ListN.{length, take};
 ghost use Rattle.base.specs.declared.Verdict.the-variants.{Refused};
-ghost use Rattle.base.specs.Lent.{lent};
 ghost use Rattle.model.specs.Requests.{Within};
-ghost use Rattle.planner.specs.Answers.{marks-of, rows-of-plan, plan-verdict, planned};
+ghost use Rattle.planner.specs.Answers.{plan-verdict, planned, marks-left, rows-left};
 ghost use Rattle.planner.specs.Asked.{asks};
 ghost use Rattle.planner.specs.Fits.{Ready};
 ghost use Rattle.planner.specs.PlanAnswer.{Marked, Answered, Plan-answered, marked-rows, answer-of};
@@ -118,8 +117,8 @@ fn plan_of(
 // The cheapest schedule that there could have been for a log (01's 'The plan'): its cost, its marks as letters and its rows.
 pub fn plan(log: &[u8], marks: &mut [u8], rows: &mut [u32]) -> Planned
     ensures { λ r. ⌜ r ≡ planned (plan-verdict (now (log .entry)) (length (now (marks .entry))) (length (now (rows .entry)))) (now (log .entry)) ⌝ }
-    ensures { λ _. ⌜ now (marks .exit) ≡ lent (plan-verdict (now (log .entry)) (length (now (marks .entry))) (length (now (rows .entry)))) (marks-of (now (log .entry))) (now (marks .entry)) ⌝ }
-    ensures { λ _. ⌜ now (rows .exit) ≡ lent (plan-verdict (now (log .entry)) (length (now (marks .entry))) (length (now (rows .entry)))) (rows-of-plan (now (log .entry))) (now (rows .entry)) ⌝ }
+    ensures { λ _. ⌜ now (marks .exit) ≡ marks-left (now (log .entry)) (now (marks .entry)) (now (rows .entry)) ⌝ }
+    ensures { λ _. ⌜ now (rows .exit) ≡ rows-left (now (log .entry)) (now (marks .entry)) (now (rows .entry)) ⌝ }
 {
     let mut seconds = [0u32; 2049];
     let mut servers = [0u16; 2049];
