@@ -19,25 +19,21 @@ use base::bytes::copy;
 use base::bytes::le_bytes16;
 use base::bytes::le_bytes32;
 use base::refusals::or_else;
+use base::widths::u64_from_size;
 
-fn half(n: usize) -> u16
+// At most 2,048 requests, in narrower types.
+fn u16_from_size(n: usize) -> u16
     requires { ⌜ n ≤ 2048 ⌝ }
     ensures { λ r. ⌜ r ≡ n ⌝ }
 {
     n as u16
 }
 
-fn word(n: usize) -> u32
+fn u32_from_size(n: usize) -> u32
     requires { ⌜ n ≤ 2048 ⌝ }
     ensures { λ r. ⌜ r ≡ n ⌝ }
 {
     n as u32
-}
-
-fn long(n: usize) -> u64
-    ensures { λ r. ⌜ r ≡ n ⌝ }
-{
-    n as u64
 }
 
 // Bytes 0 to 19 of a log of n requests.
@@ -45,8 +41,8 @@ fn front(header: Header, n: usize) -> [u8; 20]
     requires { ⌜ n ≤ 2048 ⌝ }
     ensures { λ r. ⌜ r ≡ head header n ⌝ }
 {
-    let c = le_bytes16(half(n));
-    let t = le_bytes32(40 + 6 * word(n));
+    let c = le_bytes16(u16_from_size(n));
+    let t = le_bytes32(40 + 6 * u32_from_size(n));
     [
         1,
         0,
@@ -128,7 +124,7 @@ fn write_fault(header: Header, seconds: &[u32], servers: &[u16], log: usize) -> 
         return Verdict::Refused(r);
     }
     let total = 40 + 6 * seconds.len();
-    or_else(Verdict::Passed, log < total, 31, long(total))
+    or_else(Verdict::Passed, log < total, 31, u64_from_size(total))
 }
 
 // Write a log: its bytes into what is lent, and zeros after them.
@@ -146,5 +142,5 @@ pub fn write(header: Header, seconds: &[u32], servers: &[u16], log: &mut [u8]) -
     put_requests(seconds, servers, log);
     clear8(log, total);
     put_sum(total, log);
-    Written::Length(long(total))
+    Written::Length(u64_from_size(total))
 }
