@@ -7,8 +7,8 @@ ghost use Rattle.base.specs.Bytes.{le16, le32};
 ghost use Rattle.base.specs.Lent.{lent};
 ghost use Rattle.base.specs.declared.Verdict.the-variants.{Passed};
 ghost use Rattle.base.specs.Lists.{build};
-ghost use Rattle.log.specs.Fields.{id-of, header-of, seconds-of, servers-of};
-ghost use Rattle.log.specs.Answers.{no-header, read-verdict, decoded};
+ghost use Rattle.log.specs.Fields.{id-of, header-of};
+ghost use Rattle.log.specs.Answers.{no-header, read-verdict, decoded, seconds-left, servers-left};
 use crate::Decoded;
 use crate::Header;
 use crate::ReadOutcome;
@@ -133,8 +133,8 @@ fn read_fault(log: &[u8], seconds: usize, servers: usize) -> Verdict
 // Read a log: its header and number of requests, their seconds and servers into what is lent.
 pub fn read(log: &[u8], seconds: &mut [u32], servers: &mut [u16]) -> Decoded
     ensures { λ r. ⌜ r ≡ decoded (read-verdict (now (log .entry)) (length (now (seconds .entry))) (length (now (servers .entry)))) (now (log .entry)) ⌝ }
-    ensures { λ _. ⌜ now (seconds .exit) ≡ lent (read-verdict (now (log .entry)) (length (now (seconds .entry))) (length (now (servers .entry)))) (seconds-of (now (log .entry))) (now (seconds .entry)) ⌝ }
-    ensures { λ _. ⌜ now (servers .exit) ≡ lent (read-verdict (now (log .entry)) (length (now (seconds .entry))) (length (now (servers .entry)))) (servers-of (now (log .entry))) (now (servers .entry)) ⌝ }
+    ensures { λ _. ⌜ now (seconds .exit) ≡ seconds-left (now (log .entry)) (now (seconds .entry)) (now (servers .entry)) ⌝ }
+    ensures { λ _. ⌜ now (servers .exit) ≡ servers-left (now (log .entry)) (now (seconds .entry)) (now (servers .entry)) ⌝ }
 {
     let v = read_fault(log, seconds.len(), servers.len());
     if let Verdict::Refused(r) = v {

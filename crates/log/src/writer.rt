@@ -4,11 +4,10 @@ ghost use mathlib.Core.List.{_++_};
 ghost use Prim.Native.Nat.{_+_, _*_, _≤_, _<_};
 ghost use lib.ListN.{length, take, drop};
 ghost use Rattle.base.specs.Bytes.{bytes};
-ghost use Rattle.base.specs.Lent.{lent};
 ghost use Rattle.base.specs.Lists.{splice};
 ghost use Rattle.log.specs.Sum.{sum-of};
-ghost use Rattle.log.specs.Contents.{contents, head, request-bytes, requests-bytes, encode};
-ghost use Rattle.log.specs.Answers.{write-verdict, written};
+ghost use Rattle.log.specs.Contents.{contents, head, request-bytes, requests-bytes};
+ghost use Rattle.log.specs.Answers.{write-verdict, written, log-left};
 use crate::Header;
 use crate::Written;
 use crate::checksum::sum;
@@ -130,7 +129,7 @@ fn write_fault(header: Header, seconds: &[u32], servers: &[u16], log: usize) -> 
 // Write a log: its bytes into what is lent, and zeros after them.
 pub fn write(header: Header, seconds: &[u32], servers: &[u16], log: &mut [u8]) -> Written
     ensures { λ r. ⌜ r ≡ written (write-verdict (contents header (now (seconds .entry)) (now (servers .entry))) (length (now (log .entry)))) (contents header (now (seconds .entry)) (now (servers .entry))) ⌝ }
-    ensures { λ _. ⌜ now (log .exit) ≡ lent (write-verdict (contents header (now (seconds .entry)) (now (servers .entry))) (length (now (log .entry)))) (encode (contents header (now (seconds .entry)) (now (servers .entry)))) (now (log .entry)) ⌝ }
+    ensures { λ _. ⌜ now (log .exit) ≡ log-left (contents header (now (seconds .entry)) (now (servers .entry))) (now (log .entry)) ⌝ }
 {
     let v = write_fault(header, seconds, servers, log.len());
     if let Verdict::Refused(r) = v {
