@@ -1,6 +1,6 @@
 -- Little-endian numbers in a list of bytes; 0 stands for what is past the list's end. Assumes nothing.
 use mathlib.Core.List.{List, [], _∷_}
-use Prim.Native.Nat.{ℕ, zero, suc, _+_, _*_, _/_, _%_}
+use Prim.Native.Nat.{ℕ, zero, suc, _+_, _*_, _/_, _%_, _<_}
 use lib.ListN.{getD}
 
 -- the byte at i
@@ -19,3 +19,7 @@ le32 s i = le16 s i + 65536 * le16 s (i + 2)
 abbrev pub bytes : ℕ → ℕ → List ℕ
 bytes zero x = []
 bytes (suc n) x = x % 256 ∷ bytes n (x / 256)
+
+-- every element is a byte
+abbrev pub Are-bytes : List ℕ → Type 0
+Are-bytes s = (i : ℕ) → byte s i < 256

@@ -5,13 +5,9 @@ use Prim.Native.Nat.{ℕ, zero, suc, _+_, _*_, _/_, _^_, _≤_, _<_}
 use native.Mathlib.Nat.{add-assoc}
 use native.Mathlib.Numerals.{add-one}
 use native.Mathlib.Omega.{arith}
-use lib.ListN.{length, getD, take, drop, List·getD-eq-default}
+use lib.ListN.{length, take, drop, List·getD-eq-default}
 use lib.Seq.{getD-append-add, drop-cons}
-use Rattle.base.specs.Bytes.{byte, le16, le32, bytes}
-
--- every element is a byte
-abbrev pub Are-bytes : List ℕ → Type 0
-Are-bytes s = (i : ℕ) → getD s i 0 < 256
+use Rattle.base.specs.Bytes.{byte, le16, le32, bytes, Are-bytes}
 
 -- bytes n x has n elements
 pub bytes-length : (n x : ℕ) → length (bytes n x) ≡ n

@@ -1,14 +1,16 @@
--- The definitions of crate base, and their laws.
+-- Crate base.
+-- What a reader believes: the definitions.
 pub mod Choice
-pub mod ChoiceLaws
 pub mod Lists
 pub mod Bytes
-pub mod BytesLaws
 pub mod Refusals
-pub mod RefusalLaws
 pub mod Sets
+pub mod Lent
+-- What is proved of them.
+pub mod ChoiceLaws
+pub mod BytesLaws
+pub mod RefusalLaws
 pub mod SetLaws
 pub mod LowestLaws
 pub mod WordLaws
-pub mod Lent
 pub mod LentLaws

@@ -5,20 +5,11 @@ use mathlib.Core.Logic.{_⊎_, inl, inr, _↔_}
 use mathlib.Core.Path.{_≡_, refl, sym, ap, _∙_}
 use Prim.Native.Nat.{ℕ, zero, suc, _<_, _≤_}
 use native.Mathlib.Omega.{arith}
-use lib.ListN.{getD}
 use Rattle.base.specs.declared.Refusal.{Refusal}
 use Rattle.base.specs.declared.Verdict.{Verdict}
 use Rattle.base.specs.declared.Verdict.the-variants.{Passed, Refused}
 use Rattle.base.specs.Choice.{le-or-lt, not-both}
-use Rattle.base.specs.Refusals.{Condition, refuse, first, or-else, each}
-
--- what a condition refuses with
-abbrev pub reason : Condition → Refusal
-reason c = record { number = c .number; place = c .place }
-
--- the i-th condition of a list, from 0; past the end one that does not hold
-abbrev pub nth : List Condition → ℕ → Condition
-nth cs i = getD cs i (refuse 0 0 false)
+use Rattle.base.specs.Refusals.{Condition, reason, first, or-else, from, each, nth, First}
 
 -- where a list's first condition holds, it refuses
 pub first-met : (c : Condition) (cs : List Condition) → c .holds ≡ true → first (c ∷ cs) ≡ Refused (reason c)
@@ -31,11 +22,6 @@ unfolding first
 first-failed c cs h = rw (h, first)
 
 -- ---- the code's chain: `or_else` for one condition after the other
-
--- the conditions of a list, each tried in its turn
-unfoldable pub from : Verdict → List Condition → Verdict
-from v [] = v
-from v (c ∷ cs) = from (or-else v c) cs
 
 -- one turn from Passed, where the condition holds
 pub or-else-met : (c : Condition) → c .holds ≡ true → or-else Passed c ≡ Refused (reason c)
@@ -155,13 +141,6 @@ none-passed (c ∷ cs) h = first-failed c cs (h 0) ∙ none-passed cs (λ i. h (
 -- passed if and only if no condition holds
 pub first-passed : (cs : List Condition) → (first cs ≡ Passed) ↔ ((i : ℕ) → nth cs i .holds ≡ false)
 first-passed cs = (passed-none cs, none-passed cs)
-
--- r is what the first condition that holds refuses with: it stands at `index`, and none before it holds
-pub record First (cs : List Condition) (r : Refusal) : Type 0 where
-  pub index : ℕ
-  pub before : (j : ℕ) → j < index → nth cs j .holds ≡ false
-  pub met : nth cs index .holds ≡ true
-  pub gives : reason (nth cs index) ≡ r
 
 -- a list that is refused has a first condition that holds
 refused-first : (cs : List Condition) (r : Refusal) → first cs ≡ Refused r → First cs r

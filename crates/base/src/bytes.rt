@@ -1,8 +1,10 @@
 // Bytes: reads that are total, little-endian numbers, and runs of elements cleared or copied.
 ghost use mathlib.Core.Path.{_≡_};
-ghost use Prim.Native.Nat.{_+_, _*_, _<_};
+ghost use Prim.Native.Nat.{_+_, _*_};
 ghost use Rattle.base.specs.Bytes.{byte, le16, le32, bytes};
 ghost use Rattle.base.specs.Lists.{cleared, splice};
+use crate::widths::u16_from_u8;
+use crate::widths::u32_from_u16;
 
 // The byte at i, or 0 past the end.
 pub fn at(s: &[u8], i: usize) -> u8
@@ -14,25 +16,11 @@ pub fn at(s: &[u8], i: usize) -> u8
     0
 }
 
-// A byte, as a wider number.
-fn half(b: u8) -> u16
-    ensures { λ r. ⌜ (r ≡ b) × (r < 256) ⌝ }
-{
-    b as u16
-}
-
-// Two bytes, as a wider number.
-fn word(h: u16) -> u32
-    ensures { λ r. ⌜ (r ≡ h) × (r < 65536) ⌝ }
-{
-    h as u32
-}
-
 // The number of two bytes, the lowest first.
 fn pair(low: u8, high: u8) -> u16
     ensures { λ r. ⌜ r ≡ low + 256 * high ⌝ }
 {
-    half(low) + 256 * half(high)
+    u16_from_u8(low) + 256 * u16_from_u8(high)
 }
 
 // The number in the two bytes from i on, 0 for a byte past the end; each byte is tested.
@@ -65,7 +53,7 @@ fn edge32(s: &[u8], i: usize) -> u32
     if s.len() <= i {
         return 0;
     }
-    word(at16(s, i)) + 65536 * word(at16(s, i + 2))
+    u32_from_u16(at16(s, i)) + 65536 * u32_from_u16(at16(s, i + 2))
 }
 
 // The same with one test where all four are there.
@@ -79,7 +67,7 @@ pub fn at32(s: &[u8], i: usize) -> u32
         return edge32(s, i);
     }
     let k = i + 2;
-    word(pair(s[i], s[i + 1])) + 65536 * word(pair(s[k], s[k + 1]))
+    u32_from_u16(pair(s[i], s[i + 1])) + 65536 * u32_from_u16(pair(s[k], s[k + 1]))
 }
 
 // The two bytes of a number, the lowest first.

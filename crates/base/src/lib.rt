@@ -1,7 +1,8 @@
-// What every crate above needs: refusals, sets of servers in a word, total reads of bytes.
+// What every crate above needs: refusals, sets of servers in a word, total reads of bytes, numbers in wider types.
 pub mod bytes;
 pub mod refusals;
 pub mod sets;
+pub mod widths;
 
 // A refusal: its number in 01's two lists, and its place (0 unless 01 names one).
 pub struct Refusal {

@@ -16,7 +16,8 @@ use Rattle.log.specs.AcceptedLaws.{Allowed}
 use Rattle.model.specs.Requests.{Requests, requests, Rising, Within}
 use Rattle.model.specs.Plan.{plan-cost}
 use Rattle.model.specs.PlanLaws.{plan-best}
-use Rattle.model.specs.Least.{Least, plan-least}
+use Rattle.model.specs.Least.{Least}
+use Rattle.model.specs.PlanLeast.{plan-least}
 use Rattle.online.specs.declared.Cache.{Cache}
 use Rattle.online.specs.Rules.{class-prices, fresh, running}
 use Rattle.online.specs.Conditions.{broken}

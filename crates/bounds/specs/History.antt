@@ -9,8 +9,7 @@ use Rattle.prices.specs.declared.Prices.{Prices}
 use Rattle.prices.specs.Prices.{window}
 use Rattle.model.specs.Sums.{sum}
 use Rattle.model.specs.Requests.{Requests}
-use Rattle.model.specs.Marking.{Mark, K, S}
-use Rattle.model.specs.Demand.{sent}
+use Rattle.model.specs.Marking.{Mark, K, S, sent}
 use Rattle.online.specs.Servers.{across}
 
 -- the last of the requests before request n, home included, that comes before second τ

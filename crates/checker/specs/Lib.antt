@@ -1,5 +1,7 @@
--- The checker: what it answers, how the code comes by it, and why that is the same.
+-- The checker.
+-- What a reader believes: what it answers.
 pub mod Answers
+-- How the code comes by it, and why that is the same.
 pub mod Reading
 pub mod ReadingLaws
 pub mod LogLaws

@@ -8,8 +8,8 @@ use Prim.Native.Nat.{ℕ, zero, suc, _+_, _-_, _≤_, _<_}
 use lib.Dec.{eqb, ltb}
 use borrow.Author.Tests.{eq-eqb, ne-eqb, lt-ltb}
 use Rattle.base.specs.Choice.{pick, either}
-use Rattle.base.specs.Refusals.{refuse, first, or-else}
-use Rattle.base.specs.RefusalLaws.{from, from-first}
+use Rattle.base.specs.Refusals.{refuse, first, or-else, from}
+use Rattle.base.specs.RefusalLaws.{from-first}
 use Rattle.base.specs.declared.Verdict.{Verdict}
 use Rattle.base.specs.declared.Verdict.the-variants.{Passed, Refused}
 use Rattle.model.specs.RowForm.{row-at, fits, follows}

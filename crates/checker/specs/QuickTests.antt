@@ -12,8 +12,8 @@ use Rattle.base.specs.declared.Verdict.{Verdict}
 use Rattle.base.specs.declared.Verdict.the-variants.{Passed, Refused}
 use Rattle.base.specs.Choice.{either, true-or-false}
 use Rattle.base.specs.Sets.{has}
-use Rattle.base.specs.Refusals.{Condition, first, each}
-use Rattle.base.specs.RefusalLaws.{nth, first-append, first-passed, each-passed, otherwise}
+use Rattle.base.specs.Refusals.{Condition, first, each, nth}
+use Rattle.base.specs.RefusalLaws.{first-append, first-passed, each-passed, otherwise}
 use Rattle.log.specs.Fields.{server-count, home-of, request-count}
 use Rattle.log.specs.Conditions.{Accepted}
 use Rattle.log.specs.AcceptedLaws.{accepted-sound}

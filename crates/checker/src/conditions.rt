@@ -1,7 +1,7 @@
 // The conditions 14 to 18 on the numbers of a schedule, in 01's order.
 ghost use mathlib.Core.Path.{_≡_};
 ghost use mathlib.Core.Bool.{not};
-ghost use Prim.Native.Nat.{suc, _<_};
+ghost use Prim.Native.Nat.{_<_};
 ghost use lib.Dec.{ltb, eqb};
 ghost use Rattle.base.specs.Choice.{either};
 ghost use Rattle.base.specs.Refusals.{first, each};
@@ -17,6 +17,7 @@ use crate::Quad;
 use crate::copies::copies_fault;
 use crate::rows::fits;
 use crate::rows::follows;
+use crate::rows::place;
 use crate::rows::row;
 use crate::standing::member;
 use crate::standing::reaches;
@@ -27,32 +28,9 @@ use base::bytes::at;
 use base::bytes::at16;
 use base::bytes::at32;
 use base::refusals::or_else;
-
-fn size(x: u16) -> usize
-    ensures { λ r. ⌜ (r ≡ x) × (r < 65536) ⌝ }
-{
-    x as usize
-}
-
-fn word8(x: u8) -> u32
-    ensures { λ r. ⌜ r ≡ x ⌝ }
-{
-    x as u32
-}
-
-fn word16(x: u16) -> u32
-    ensures { λ r. ⌜ r ≡ x ⌝ }
-{
-    x as u32
-}
-
-// Rows and requests are counted from 1.
-fn place(i: usize) -> u64
-    requires { ⌜ i < 4611686018427387904 ⌝ }
-    ensures { λ r. ⌜ r ≡ suc i ⌝ }
-{
-    i as u64 + 1
-}
+use base::widths::size_from_u16;
+use base::widths::u32_from_u8;
+use base::widths::u32_from_u16;
 
 // 15: a kind above 1, no request, or a row that does not fit.
 fn misfits(count: u32, n: u16, last: u32, r: Quad) -> bool
@@ -119,16 +97,16 @@ fn served(log: &[u8], ns: &[u32], hints: &mut [usize; 65], i: u16) -> bool
     requires { ⌜ In-order (now ns) ⌝ }
     ensures { λ r. ⌜ r ≡ served (now (log .entry)) (now (ns .entry)) i ⌝ }
 {
-    let k = 6 * size(i);
+    let k = 6 * size_from_u16(i);
     let second = at32(log, 40 + k);
     let server = at16(log, 44 + k);
     stands(
         ns,
         hints,
-        word8(at(log, 3)),
-        word8(at(log, 4)),
+        u32_from_u8(at(log, 3)),
+        u32_from_u8(at(log, 4)),
         second,
-        word16(server),
+        u32_from_u16(server),
     )
 }
 
@@ -144,7 +122,7 @@ fn requests_fault(log: &[u8], ns: &[u32]) -> Verdict
         if !served(log, ns, &mut hints, i) {
             return Verdict::Refused(Refusal {
                 number: 18,
-                place: place(size(i)),
+                place: place(size_from_u16(i)),
             });
         }
         i += 1;
@@ -160,7 +138,7 @@ fn last_second(log: &[u8]) -> u32
     if n == 0 {
         return 0;
     }
-    at32(log, 34 + 6 * size(n))
+    at32(log, 34 + 6 * size_from_u16(n))
 }
 
 // What the numbers of a schedule are answered, for a log.
@@ -174,12 +152,12 @@ pub(crate) fn schedule_fault(log: &[u8], ns: &[u32]) -> Verdict
             place: 0,
         });
     }
-    let count = word8(at(log, 3));
+    let count = u32_from_u8(at(log, 3));
     let v = rows_fault(ns, count, at16(log, 6), last_second(log));
     if let Verdict::Refused(r) = v {
         return Verdict::Refused(r);
     }
-    let v = copies_fault(ns, count, word8(at(log, 4)));
+    let v = copies_fault(ns, count, u32_from_u8(at(log, 4)));
     if let Verdict::Refused(r) = v {
         return Verdict::Refused(r);
     }

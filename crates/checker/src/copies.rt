@@ -1,7 +1,7 @@
 // 17: rows with no copy where they begin or leave.
 ghost use mathlib.Core.Path.{_≡_};
 ghost use mathlib.Core.Bool.{not};
-ghost use Prim.Native.Nat.{suc, _+_, _-_, _<_, _≤_};
+ghost use Prim.Native.Nat.{_+_, _-_, _≤_};
 ghost use lib.Dec.{eqb};
 ghost use Rattle.base.specs.Choice.{pick, either, both};
 ghost use Rattle.base.specs.Sets.{has};
@@ -15,6 +15,7 @@ use crate::Quad;
 use crate::hints::after_holds;
 use crate::hints::after_second;
 use crate::hints::from_second;
+use crate::rows::place;
 use crate::rows::row;
 use crate::rows::second;
 use crate::standing::member;
@@ -32,14 +33,6 @@ struct Seen {
 struct Faults {
     hold: usize,
     transfer: usize,
-}
-
-// Rows are counted from 1.
-fn place(i: usize) -> u64
-    requires { ⌜ i < 4611686018427387904 ⌝ }
-    ensures { λ r. ⌜ r ≡ suc i ⌝ }
-{
-    i as u64 + 1
 }
 
 // The set at second t, where it may be known.

@@ -4,14 +4,15 @@ ghost use mathlib.Core.Path.{_≡_};
 ghost use Prim.Native.Nat.{suc, _<_};
 ghost use Rattle.checker.specs.Search.{hold-key, second-key, position, In-order};
 use crate::search::position;
-use crate::search::wide;
+use base::widths::size_from_u32;
+use base::widths::u64_from_u32;
 
 // Where server x has its hint.
 fn slot(x: u32) -> usize
     ensures { λ r. ⌜ r < 65 ⌝ }
 {
     if x < 64 {
-        return x as usize;
+        return size_from_u32(x);
     }
     64
 }
@@ -31,7 +32,12 @@ pub(crate) fn after_holds(ns: &[u32], hints: &mut [usize; 65], x: u32, t: u32) -
     requires { ⌜ In-order (now ns) ⌝ }
     ensures { λ r. ⌜ r ≡ position (now (ns .entry)) (hold-key x t) ⌝ }
 {
-    found(ns, hints, slot(x), 4194304 * wide(x) + wide(t))
+    found(
+        ns,
+        hints,
+        slot(x),
+        4194304 * u64_from_u32(x) + u64_from_u32(t),
+    )
 }
 
 // The first transfer of second t or later.
@@ -39,7 +45,7 @@ pub(crate) fn from_second(ns: &[u32], hints: &mut [usize; 65], t: u32) -> usize
     requires { ⌜ In-order (now ns) ⌝ }
     ensures { λ r. ⌜ r ≡ position (now (ns .entry)) (second-key t) ⌝ }
 {
-    found(ns, hints, 64, 268435456 + 4096 * wide(t))
+    found(ns, hints, 64, 268435456 + 4096 * u64_from_u32(t))
 }
 
 // The first transfer after second t.
@@ -47,5 +53,5 @@ pub(crate) fn after_second(ns: &[u32], hints: &mut [usize; 65], t: u32) -> usize
     requires { ⌜ In-order (now ns) ⌝ }
     ensures { λ r. ⌜ r ≡ position (now (ns .entry)) (second-key (suc t)) ⌝ }
 {
-    found(ns, hints, 64, 268435456 + 4096 * (wide(t) + 1))
+    found(ns, hints, 64, 268435456 + 4096 * (u64_from_u32(t) + 1))
 }

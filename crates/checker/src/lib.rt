@@ -1,5 +1,5 @@
 // The schedule checker.
-mod answer;
+mod checking;
 mod conditions;
 mod copies;
 mod hints;
@@ -7,8 +7,8 @@ mod rows;
 mod search;
 mod standing;
 
-pub use answer::check;
 use base::Refusal;
+pub use checking::check;
 
 // The cost of a feasible schedule, or why it is refused.
 pub enum Checked {

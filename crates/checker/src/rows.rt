@@ -1,10 +1,20 @@
 // Rows by their four numbers: 0 server from to, or 1 source target second.
 ghost use mathlib.Core.Path.{_≡_};
+ghost use Prim.Native.Nat.{suc, _<_};
 ghost use lib.ListN.{getD};
 ghost use Rattle.model.specs.Schedule.{hold, move, transfer};
 ghost use Rattle.model.specs.RowForm.{fits, follows, earlier};
 ghost use Rattle.checker.specs.Reading.{quad-at, as-row, second-of};
 use crate::Quad;
+use base::widths::u64_from_size;
+
+// Rows and requests are counted from 1.
+pub(crate) fn place(i: usize) -> u64
+    requires { ⌜ i < 4611686018427387904 ⌝ }
+    ensures { λ r. ⌜ r ≡ suc i ⌝ }
+{
+    u64_from_size(i) + 1
+}
 
 // The number at i, or 0 past the end.
 fn number(ns: &[u32], i: usize) -> u32

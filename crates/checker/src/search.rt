@@ -1,11 +1,12 @@
 // The first row from a place on, in rows in order: from a hint on by doubling steps, then by halving.
 ghost use mathlib.Core.Path.{_≡_};
-ghost use Prim.Native.Nat.{_-_, _^_, _<_, _≤_};
+ghost use Prim.Native.Nat.{_-_, _<_, _≤_};
 ghost use lib.Dec.{ltb};
 ghost use Rattle.checker.specs.Reading.{as-row};
 ghost use Rattle.checker.specs.Search.{key, position, In-order};
 use crate::Quad;
 use crate::rows::row;
+use base::widths::u64_from_u32;
 
 // Rows among which one is sought: from lo on, up to hi.
 struct Span {
@@ -13,20 +14,14 @@ struct Span {
     hi: usize,
 }
 
-pub fn wide(x: u32) -> u64
-    ensures { λ r. ⌜ (r ≡ x) × (r < 2 ^ 32) ⌝ }
-{
-    x as u64
-}
-
 // The place of a row in the order.
 fn key(r: Quad) -> u64
     ensures { λ k. ⌜ k ≡ key (as-row r) ⌝ }
 {
     if r.kind == 0 {
-        return 4194304 * wide(r.a) + wide(r.b);
+        return 4194304 * u64_from_u32(r.a) + u64_from_u32(r.b);
     }
-    268435456 + 4096 * wide(r.c) + 64 * wide(r.a) + wide(r.b)
+    268435456 + 4096 * u64_from_u32(r.c) + 64 * u64_from_u32(r.a) + u64_from_u32(r.b)
 }
 
 // Is row i before the first one at place k or later?

@@ -11,8 +11,8 @@ use lib.ListN.{length, replicate, length-append, length-replicate}
 use Rattle.base.specs.declared.Refusal.{Refusal}
 use Rattle.base.specs.declared.Verdict.{Verdict}
 use Rattle.base.specs.declared.Verdict.the-variants.{Passed, Refused}
-use Rattle.base.specs.Refusals.{Condition, first, short}
-use Rattle.base.specs.RefusalLaws.{nth, First, first-refused, first-passed, first-append, otherwise-passed}
+use Rattle.base.specs.Refusals.{Condition, first, short, nth, First}
+use Rattle.base.specs.RefusalLaws.{first-refused, first-passed, first-append, otherwise-passed}
 use Rattle.base.specs.Lent.{lent}
 use Rattle.base.specs.Lists.{build-length}
 use Rattle.log.specs.declared.Setup.{Setup}

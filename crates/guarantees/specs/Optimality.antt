@@ -12,7 +12,7 @@ use Rattle.model.specs.RowForm.{well-formed}
 use Rattle.model.specs.Plan.{plan, plan-cost, plan-rows}
 use Rattle.model.specs.MarkingRows.{rows-realize}
 use Rattle.model.specs.PlanLaws.{plan-planned}
-use Rattle.model.specs.Least.{plan-least}
+use Rattle.model.specs.PlanLeast.{plan-least}
 
 -- the plan of the first n requests, with servers below the count
 pub record Optimal (p : Prices) (count : ℕ) (q : Requests) (n : ℕ) : Type 0 where

@@ -3,7 +3,7 @@ use mathlib.Core.List.{List}
 use mathlib.Core.Logic.{_↔_}
 use mathlib.Core.Path.{_≡_}
 use Prim.Native.Nat.{ℕ, _≤_}
-use Rattle.base.specs.BytesLaws.{Are-bytes}
+use Rattle.base.specs.Bytes.{Are-bytes}
 use Rattle.log.specs.Fields.{request-count}
 use Rattle.log.specs.Conditions.{Accepted}
 use Rattle.log.specs.Contents.{Contents, decode, encode, first-requests, cut}

@@ -3,17 +3,17 @@ use mathlib.Core.List.{List, [], _∷_, _++_}
 use Prim.Native.Nat.{ℕ}
 use lib.ListN.{length, replicate}
 use Rattle.base.specs.Refusals.{first, short}
+use Rattle.base.specs.Lent.{lent}
 use Rattle.base.specs.declared.Verdict.{Verdict}
 use Rattle.base.specs.declared.Verdict.the-variants.{Passed, Refused}
 use Rattle.log.specs.declared.Header.{Header}
-use Rattle.log.specs.declared.ReadOutcome.{ReadOutcome}
 use Rattle.log.specs.declared.ReadOutcome.the-variants as read
 use Rattle.log.specs.declared.Decoded.{Decoded}
 use Rattle.log.specs.declared.Written.{Written}
 use Rattle.log.specs.declared.Written.the-variants as write
-use Rattle.log.specs.Fields.{header-of, request-count, length-for}
+use Rattle.log.specs.Fields.{header-of, request-count, length-for, seconds-of, servers-of}
 use Rattle.log.specs.Conditions.{log-conditions}
-use Rattle.log.specs.Contents.{Contents, contents-conditions}
+use Rattle.log.specs.Contents.{Contents, contents-conditions, encode}
 
 -- a reader's conditions: the log's, then 31 for seconds and for servers, given the lengths of the lent lists
 unfoldable pub read-verdict : List ℕ → ℕ → ℕ → Verdict
@@ -29,6 +29,13 @@ unfoldable pub decoded : Verdict → List ℕ → Decoded
 decoded Passed s = record { header = header-of s; outcome = read.Requests (request-count s) }
 decoded (Refused r) s = record { header = no-header; outcome = read.Refused r }
 
+-- what the lent lists hold at the end
+abbrev pub seconds-left : List ℕ → List ℕ → List ℕ → List ℕ
+seconds-left log seconds servers = lent (read-verdict log (length seconds) (length servers)) (seconds-of log) seconds
+
+abbrev pub servers-left : List ℕ → List ℕ → List ℕ → List ℕ
+servers-left log seconds servers = lent (read-verdict log (length seconds) (length servers)) (servers-of log) servers
+
 -- a writer's conditions: those on what is to be written, then 31 for the log, given its length
 unfoldable pub write-verdict : Contents → ℕ → Verdict
 write-verdict c log = first (contents-conditions c ++ (short (length-for (length (c .seconds))) log ∷ []))
@@ -37,3 +44,7 @@ write-verdict c log = first (contents-conditions c ++ (short (length-for (length
 unfoldable pub written : Verdict → Contents → Written
 written Passed c = write.Length (length-for (length (c .seconds)))
 written (Refused r) c = write.Refused r
+
+-- what the lent log holds at the end
+abbrev pub log-left : Contents → List ℕ → List ℕ
+log-left c log = lent (write-verdict c (length log)) (encode c) log

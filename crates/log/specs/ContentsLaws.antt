@@ -8,8 +8,8 @@ use lib.Dec.{ltb, eqb}
 use lib.ListN.{length}
 use borrow.Author.Tests.{ltb-false, eqb-true, not-false}
 use Rattle.base.specs.Choice.{either}
-use Rattle.base.specs.Refusals.{Condition, refuse, first, each, or-else}
-use Rattle.base.specs.RefusalLaws.{first-append, otherwise, from, from-first, from-append}
+use Rattle.base.specs.Refusals.{Condition, refuse, first, each, or-else, from}
+use Rattle.base.specs.RefusalLaws.{first-append, otherwise, from-first, from-append}
 use Rattle.base.specs.declared.Verdict.{Verdict}
 use Rattle.base.specs.declared.Verdict.the-variants.{Passed, Refused}
 use Rattle.log.specs.Conditions.{setup-conditions, request-conditions}

@@ -7,8 +7,7 @@ use native.Mathlib.Omega.{arith}
 use lib.ListN.{length, getD, take, List·getD-eq-default}
 use lib.Seq.{take-all, length-take-le, getD-take}
 use Rattle.base.specs.Choice.{le-or-lt}
-use Rattle.base.specs.Bytes.{byte}
-use Rattle.base.specs.BytesLaws.{Are-bytes}
+use Rattle.base.specs.Bytes.{byte, Are-bytes}
 use Rattle.base.specs.Lists.{build-at}
 use Rattle.log.specs.Fields.{request-count, id-of, seconds-of, servers-of, header-of}
 use Rattle.log.specs.Conditions.{before, Accepted}

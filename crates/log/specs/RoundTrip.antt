@@ -5,8 +5,8 @@ use Prim.Native.Nat.{ℕ, zero, suc, _+_, _*_, _≤_, _<_}
 use native.Mathlib.Omega.{arith}
 use lib.ListN.{length, getD, take, drop, length-drop, take-append-drop}
 use lib.Seq.{drop-at, length-take-le, take-all, take-suc, take-add, getD-drop}
-use Rattle.base.specs.Bytes.{byte, le16, le32, bytes}
-use Rattle.base.specs.BytesLaws.{Are-bytes, bytes-small, bytes-le16, bytes-le32}
+use Rattle.base.specs.Bytes.{byte, le16, le32, bytes, Are-bytes}
+use Rattle.base.specs.BytesLaws.{bytes-small, bytes-le16, bytes-le32}
 use Rattle.base.specs.Lists.{build-same, build-read}
 use Rattle.log.specs.declared.Header.{Header}
 use Rattle.log.specs.Fields.{version, class-of, server-count, home-of, request-count, requests-offset, id-offset, total-length, written-sum, id-of, length-for, seconds-of, servers-of, header-of}

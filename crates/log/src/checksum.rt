@@ -2,6 +2,7 @@
 ghost use mathlib.Core.Path.{_≡_};
 ghost use Prim.Native.Nat.{_+_, _*_, _%_, _^_};
 ghost use Rattle.log.specs.Sum.{sum-from, sum-of};
+use base::widths::u32_from_u8;
 use std::num::wrapping_add_u32;
 
 // 31 times x, modulo 2^32.
@@ -18,17 +19,11 @@ fn times31(x: u32) -> u32
     wrapping_add_u32(x30, x)
 }
 
-fn word(b: u8) -> u32
-    ensures { λ r. ⌜ r ≡ b ⌝ }
-{
-    b as u32
-}
-
 // The sum after one more byte.
 fn step(s: u32, b: u8) -> u32
     ensures { λ r. ⌜ r ≡ (31 * s + b) % 2 ^ 32 ⌝ }
 {
-    wrapping_add_u32(times31(s), word(b))
+    wrapping_add_u32(times31(s), u32_from_u8(b))
 }
 
 // The sum over some bytes, from what it is before them.

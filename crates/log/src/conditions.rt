@@ -5,8 +5,7 @@ ghost use Prim.Native.Nat.{suc, _+_, _*_, _<_, _≤_};
 ghost use lib.Dec.{ltb, eqb};
 ghost use lib.ListN.{length};
 ghost use Rattle.base.specs.Choice.{either};
-ghost use Rattle.base.specs.Refusals.{first, each};
-ghost use Rattle.base.specs.RefusalLaws.{from};
+ghost use Rattle.base.specs.Refusals.{first, each, from};
 ghost use Rattle.log.specs.Fields.{server-count, request-count, requests-offset, id-offset, total-length, written-sum, length-for, seconds-of, servers-of};
 ghost use Rattle.log.specs.Sum.{sum-of};
 ghost use Rattle.log.specs.Conditions.{setup-conditions, form-conditions, request-check, request-conditions, verdict-of};
@@ -20,24 +19,11 @@ use base::bytes::at;
 use base::bytes::at16;
 use base::bytes::at32;
 use base::refusals::or_else;
-
-fn size(x: u16) -> usize
-    ensures { λ r. ⌜ (r ≡ x) × (r < 65536) ⌝ }
-{
-    x as usize
-}
-
-fn word(x: u16) -> u32
-    ensures { λ r. ⌜ (r ≡ x) × (r < 65536) ⌝ }
-{
-    x as u32
-}
-
-fn half(x: u8) -> u16
-    ensures { λ r. ⌜ r ≡ x ⌝ }
-{
-    x as u16
-}
+use base::widths::size_from_u16;
+use base::widths::size_from_u32;
+use base::widths::u16_from_u8;
+use base::widths::u32_from_u16;
+use base::widths::u64_from_size;
 
 // 1 to 64 servers are allowed.
 fn count_outside(count: u8) -> bool
@@ -68,20 +54,14 @@ fn misplaced(log: &[u8], n: u16) -> bool
     if at32(log, 12) != 24 {
         return true;
     }
-    at32(log, 16) != 40 + 6 * word(n)
-}
-
-fn wide(x: u32) -> usize
-    ensures { λ r. ⌜ r ≡ x ⌝ }
-{
-    x as usize
+    at32(log, 16) != 40 + 6 * u32_from_u16(n)
 }
 
 // The file's length is not the total that the log gives.
 fn total_differs(log: &[u8]) -> bool
     ensures { λ r. ⌜ r ≡ not (eqb (length (now (log .entry))) (total-length (now (log .entry)))) ⌝ }
 {
-    log.len() != wide(at32(log, 16))
+    log.len() != size_from_u32(at32(log, 16))
 }
 
 // 1 to 9.
@@ -124,7 +104,7 @@ fn second_outside(second: u32) -> bool
 fn request_fault(count: u8, server: u16, second: u32, earlier: u32, place: u64) -> Verdict
     ensures { λ r. ⌜ r ≡ first (request-check count server second earlier place) ⌝ }
 {
-    let v = or_else(Verdict::Passed, half(count) <= server, 11, place);
+    let v = or_else(Verdict::Passed, u16_from_u8(count) <= server, 11, place);
     let v = or_else(v, second_outside(second), 12, place);
     or_else(v, second <= earlier, 13, place)
 }
@@ -134,7 +114,7 @@ fn place(i: usize) -> u64
     requires { ⌜ i < 65536 ⌝ }
     ensures { λ r. ⌜ r ≡ suc i ⌝ }
 {
-    i as u64 + 1
+    u64_from_size(i) + 1
 }
 
 // 11 to 13 for each request of a log.
@@ -146,7 +126,7 @@ fn requests_fault(log: &[u8]) -> Verdict
     let mut earlier: u32 = 0;
     let mut i: u16 = 0;
     while i < n {
-        let k = size(i);
+        let k = size_from_u16(i);
         let second = at32(log, 40 + 6 * k);
         let v = request_fault(count, at16(log, 44 + 6 * k), second, earlier, place(k));
         if let Verdict::Refused(r) = v {

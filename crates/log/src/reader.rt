@@ -1,14 +1,14 @@
 // The reader.
 ghost use mathlib.Core.Path.{_≡_};
 ghost use mathlib.Core.List.{_++_};
-ghost use Prim.Native.Nat.{_+_, _*_, _≤_, _<_};
+ghost use Prim.Native.Nat.{_+_, _*_, _≤_};
 ghost use lib.ListN.{length, drop};
 ghost use Rattle.base.specs.Bytes.{le16, le32};
 ghost use Rattle.base.specs.Lent.{lent};
 ghost use Rattle.base.specs.declared.Verdict.the-variants.{Passed};
 ghost use Rattle.base.specs.Lists.{build};
-ghost use Rattle.log.specs.Fields.{id-of, header-of, seconds-of, servers-of};
-ghost use Rattle.log.specs.Answers.{no-header, read-verdict, decoded};
+ghost use Rattle.log.specs.Fields.{id-of, header-of};
+ghost use Rattle.log.specs.Answers.{no-header, read-verdict, decoded, seconds-left, servers-left};
 use crate::Decoded;
 use crate::Header;
 use crate::ReadOutcome;
@@ -20,18 +20,8 @@ use base::bytes::at32;
 use base::bytes::clear16;
 use base::bytes::clear32;
 use base::refusals::or_else;
-
-fn size(x: u16) -> usize
-    ensures { λ r. ⌜ (r ≡ x) × (r < 65536) ⌝ }
-{
-    x as usize
-}
-
-fn long(x: u16) -> u64
-    ensures { λ r. ⌜ r ≡ x ⌝ }
-{
-    x as u64
-}
+use base::widths::size_from_u16;
+use base::widths::u64_from_u16;
 
 // The file id.
 fn id(log: &[u8]) -> [u8; 16]
@@ -89,7 +79,7 @@ fn put_seconds(log: &[u8], n: u16, out: &mut [u32])
 {
     let mut i: u16 = 0;
     while i < n {
-        let k = size(i);
+        let k = size_from_u16(i);
         out[k] = at32(log, 40 + 6 * k);
         i += 1;
     }
@@ -102,7 +92,7 @@ fn put_servers(log: &[u8], n: u16, out: &mut [u16])
 {
     let mut i: u16 = 0;
     while i < n {
-        let k = size(i);
+        let k = size_from_u16(i);
         out[k] = at16(log, 44 + 6 * k);
         i += 1;
     }
@@ -114,7 +104,7 @@ fn give_seconds(log: &[u8], n: u16, out: &mut [u32])
     ensures { λ _. ⌜ now (out .exit) ≡ lent Passed (build n (λ i. le32 (now (log .entry)) (40 + 6 * i))) (now (out .entry)) ⌝ }
 {
     put_seconds(log, n, out);
-    clear32(out, size(n));
+    clear32(out, size_from_u16(n));
 }
 
 // All n servers, and zeros after them.
@@ -123,7 +113,7 @@ fn give_servers(log: &[u8], n: u16, out: &mut [u16])
     ensures { λ _. ⌜ now (out .exit) ≡ lent Passed (build n (λ i. le16 (now (log .entry)) (44 + 6 * i))) (now (out .entry)) ⌝ }
 {
     put_servers(log, n, out);
-    clear16(out, size(n));
+    clear16(out, size_from_u16(n));
 }
 
 // The log's conditions, then 31 for seconds and for servers.
@@ -131,15 +121,20 @@ fn read_fault(log: &[u8], seconds: usize, servers: usize) -> Verdict
     ensures { λ r. ⌜ r ≡ read-verdict (now (log .entry)) seconds servers ⌝ }
 {
     let n = at16(log, 6);
-    let v = or_else(verdict(log), seconds < size(n), 31, long(n));
-    or_else(v, servers < size(n), 31, long(n))
+    let v = or_else(
+        verdict(log),
+        seconds < size_from_u16(n),
+        31,
+        u64_from_u16(n),
+    );
+    or_else(v, servers < size_from_u16(n), 31, u64_from_u16(n))
 }
 
 // Read a log: its header and number of requests, their seconds and servers into what is lent.
 pub fn read(log: &[u8], seconds: &mut [u32], servers: &mut [u16]) -> Decoded
     ensures { λ r. ⌜ r ≡ decoded (read-verdict (now (log .entry)) (length (now (seconds .entry))) (length (now (servers .entry)))) (now (log .entry)) ⌝ }
-    ensures { λ _. ⌜ now (seconds .exit) ≡ lent (read-verdict (now (log .entry)) (length (now (seconds .entry))) (length (now (servers .entry)))) (seconds-of (now (log .entry))) (now (seconds .entry)) ⌝ }
-    ensures { λ _. ⌜ now (servers .exit) ≡ lent (read-verdict (now (log .entry)) (length (now (seconds .entry))) (length (now (servers .entry)))) (servers-of (now (log .entry))) (now (servers .entry)) ⌝ }
+    ensures { λ _. ⌜ now (seconds .exit) ≡ seconds-left (now (log .entry)) (now (seconds .entry)) (now (servers .entry)) ⌝ }
+    ensures { λ _. ⌜ now (servers .exit) ≡ servers-left (now (log .entry)) (now (seconds .entry)) (now (servers .entry)) ⌝ }
 {
     let v = read_fault(log, seconds.len(), servers.len());
     if let Verdict::Refused(r) = v {

@@ -4,11 +4,10 @@ ghost use mathlib.Core.List.{_++_};
 ghost use Prim.Native.Nat.{_+_, _*_, _≤_, _<_};
 ghost use lib.ListN.{length, take, drop};
 ghost use Rattle.base.specs.Bytes.{bytes};
-ghost use Rattle.base.specs.Lent.{lent};
 ghost use Rattle.base.specs.Lists.{splice};
 ghost use Rattle.log.specs.Sum.{sum-of};
-ghost use Rattle.log.specs.Contents.{contents, head, request-bytes, requests-bytes, encode};
-ghost use Rattle.log.specs.Answers.{write-verdict, written};
+ghost use Rattle.log.specs.Contents.{contents, head, request-bytes, requests-bytes};
+ghost use Rattle.log.specs.Answers.{write-verdict, written, log-left};
 use crate::Header;
 use crate::Written;
 use crate::checksum::sum;
@@ -19,25 +18,21 @@ use base::bytes::copy;
 use base::bytes::le_bytes16;
 use base::bytes::le_bytes32;
 use base::refusals::or_else;
+use base::widths::u64_from_size;
 
-fn half(n: usize) -> u16
+// At most 2,048 requests, in narrower types.
+fn u16_from_size(n: usize) -> u16
     requires { ⌜ n ≤ 2048 ⌝ }
     ensures { λ r. ⌜ r ≡ n ⌝ }
 {
     n as u16
 }
 
-fn word(n: usize) -> u32
+fn u32_from_size(n: usize) -> u32
     requires { ⌜ n ≤ 2048 ⌝ }
     ensures { λ r. ⌜ r ≡ n ⌝ }
 {
     n as u32
-}
-
-fn long(n: usize) -> u64
-    ensures { λ r. ⌜ r ≡ n ⌝ }
-{
-    n as u64
 }
 
 // Bytes 0 to 19 of a log of n requests.
@@ -45,8 +40,8 @@ fn front(header: Header, n: usize) -> [u8; 20]
     requires { ⌜ n ≤ 2048 ⌝ }
     ensures { λ r. ⌜ r ≡ head header n ⌝ }
 {
-    let c = le_bytes16(half(n));
-    let t = le_bytes32(40 + 6 * word(n));
+    let c = le_bytes16(u16_from_size(n));
+    let t = le_bytes32(40 + 6 * u32_from_size(n));
     [
         1,
         0,
@@ -128,13 +123,13 @@ fn write_fault(header: Header, seconds: &[u32], servers: &[u16], log: usize) -> 
         return Verdict::Refused(r);
     }
     let total = 40 + 6 * seconds.len();
-    or_else(Verdict::Passed, log < total, 31, long(total))
+    or_else(Verdict::Passed, log < total, 31, u64_from_size(total))
 }
 
 // Write a log: its bytes into what is lent, and zeros after them.
 pub fn write(header: Header, seconds: &[u32], servers: &[u16], log: &mut [u8]) -> Written
     ensures { λ r. ⌜ r ≡ written (write-verdict (contents header (now (seconds .entry)) (now (servers .entry))) (length (now (log .entry)))) (contents header (now (seconds .entry)) (now (servers .entry))) ⌝ }
-    ensures { λ _. ⌜ now (log .exit) ≡ lent (write-verdict (contents header (now (seconds .entry)) (now (servers .entry))) (length (now (log .entry)))) (encode (contents header (now (seconds .entry)) (now (servers .entry)))) (now (log .entry)) ⌝ }
+    ensures { λ _. ⌜ now (log .exit) ≡ log-left (contents header (now (seconds .entry)) (now (servers .entry))) (now (log .entry)) ⌝ }
 {
     let v = write_fault(header, seconds, servers, log.len());
     if let Verdict::Refused(r) = v {
@@ -146,5 +141,5 @@ pub fn write(header: Header, seconds: &[u32], servers: &[u16], log: &mut [u8]) -
     put_requests(seconds, servers, log);
     clear8(log, total);
     put_sum(total, log);
-    Written::Length(long(total))
+    Written::Length(u64_from_size(total))
 }

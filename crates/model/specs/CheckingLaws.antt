@@ -10,8 +10,8 @@ use lib.ListN.{getD, length}
 use borrow.Author.Tests.{ltb-false, eqb-true, eqb-false, lt-ltb, le-ltb, ne-eqb, not-false}
 use Rattle.base.specs.declared.Verdict.the-variants.{Passed}
 use Rattle.base.specs.Choice.{either}
-use Rattle.base.specs.Refusals.{Condition, refuse, first, each}
-use Rattle.base.specs.RefusalLaws.{first-failed, first-append, otherwise-passed, each-passed, first-passed, nth}
+use Rattle.base.specs.Refusals.{Condition, refuse, first, each, nth}
+use Rattle.base.specs.RefusalLaws.{first-failed, first-append, otherwise-passed, each-passed, first-passed}
 use Rattle.prices.specs.declared.Prices.{Prices}
 use Rattle.base.specs.ChoiceLaws.{either-false}
 use Rattle.model.specs.Requests.{Requests}

@@ -13,7 +13,7 @@ use Rattle.model.specs.Sums.{sum}
 use Rattle.model.specs.SumLaws.{sum-le, sum-scale, sum-longer, sum-ones, sum-minus, inside, inside-low, sum-inside}
 use Rattle.model.specs.Requests.{Requests, previous, Rising}
 use Rattle.model.specs.RequestLaws.{none-some, previous-some, rises-le}
-use Rattle.model.specs.Marking.{Mark, K, S, keeps, some?, legal, begin}
+use Rattle.model.specs.Marking.{Mark, K, S, keeps, some?, legal, begin, sent}
 use Rattle.model.specs.Table.{open-gap, table, send-price, free}
 use Rattle.model.specs.TableLaws.{May, table-away, table-kept, open-gap-open, open-gap-shut}
 
@@ -165,10 +165,6 @@ module _ (p : Prices) (q : Requests) (n : ℕ) (r : Rising q n) (allow : ℕ →
   -- the demand lemma, for any policy
   pub demand-of : (c : ℕ) (D : ℕ → ℕ) → c ≤ n → Enough q from asks D n c → t n c ≤ fees from fee n + p .hold * sum (q .time n) D
   demand-of c D h d = bound n c D (omega arith) h d
-
--- the requests among the first i that are not K
-unfoldable pub sent : (ℕ → Mark) → ℕ → ℕ
-sent m i = sum i (λ l. pick (keeps (m l)) 0 1)
 
 -- a marking of the first n requests that is K only where there is a previous request
 unfoldable pub Proper : Requests → ℕ → (ℕ → Mark) → Type 0

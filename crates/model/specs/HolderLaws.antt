@@ -10,10 +10,10 @@ use borrow.Author.Tests.{lt-ltb, ltb-true, le-leb, leb-true, eq-eqb, eqb-true}
 use Rattle.base.specs.Choice.{both, le-or-lt, true-or-false, not-both}
 use Rattle.model.specs.Requests.{Requests, previous, Within}
 use Rattle.model.specs.RequestLaws.{previous-some}
-use Rattle.model.specs.Marking.{Mark, K, S, keeps, begin, after, spans, covered, holds}
+use Rattle.model.specs.Marking.{Mark, K, S, keeps, begin, after, spans, covered, holds, Valid}
 use Rattle.base.specs.ChoiceLaws.{both-true}
 use Rattle.model.specs.TestLaws.{any-true, any-has}
-use Rattle.model.specs.Valid.{Valid, kept-from, sent-apart}
+use Rattle.model.specs.LegalLaws.{kept-from, sent-apart}
 
 -- request i is kept, and its span, from `start`, lies over gap k
 pub record Span (q : Requests) (m : ℕ → Mark) (i k : ℕ) : Type 0 where

@@ -1,8 +1,19 @@
--- The model of 01's 'Schedules' and 'The plan': definitions, and the theorems about them.
+-- Crate model: 01's 'Schedules' and 'The plan'.
+-- What a reader believes: the definitions.
+pub mod Sums
+pub mod Requests
+pub mod Schedule
+pub mod Standing
+pub mod RowForm
+pub mod Marking
+pub mod Plan
+pub mod Least
+pub mod Checking
+pub mod LogRequests
+-- What is proved of them.
 pub mod Alike
 pub mod BestLaws
 pub mod Bounds
-pub mod Checking
 pub mod CheckingLaws
 pub mod CostBound
 pub mod CountLaws
@@ -14,36 +25,28 @@ pub mod FormLaws
 pub mod HolderCount
 pub mod HolderLaws
 pub mod LeastLaws
-pub mod LogRequests
+pub mod LegalLaws
+pub mod LogRequestLaws
 pub mod LowerBound
-pub mod Marking
 pub mod MarkingRows
 pub mod Once
 pub mod PartCost
-pub mod Plan
 pub mod PlanLaws
+pub mod PlanLeast
 pub mod RequestLaws
-pub mod Requests
-pub mod RowForm
 pub mod RowLaws
 pub mod RowMembers
 pub mod RowsCost
 pub mod RowsFeasible
 pub mod RowsFormed
 pub mod RunLaws
-pub mod Schedule
 pub mod SpanSeconds
-pub mod Standing
 pub mod StandingLaws
 pub mod SumLaws
-pub mod Sums
 pub mod Table
 pub mod TableLaws
 pub mod TableLists
 pub mod TableRows
 pub mod TestLaws
 pub mod Ties
-pub mod Valid
 pub mod Walk
-pub mod Least
-pub mod LogRequestLaws

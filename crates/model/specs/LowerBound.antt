@@ -25,9 +25,9 @@ use Rattle.model.specs.Requests.{Requests, previous, Rising}
 use Rattle.model.specs.RequestLaws.{rises-le}
 use Rattle.model.specs.Once.{awaits-own, since-some, Claim, idle, claims, claims-met}
 use Rattle.model.specs.Schedule.{Row, hold, move, transfer, Feasible, length-of, is-transfer, cost-of}
-use Rattle.model.specs.Marking.{Mark, K, S, keeps, some?, legal, begin}
+use Rattle.model.specs.Marking.{Mark, K, S, keeps, some?, legal, begin, sent}
 use Rattle.model.specs.Table.{free, best}
-use Rattle.model.specs.Demand.{spanned, spans-over, sent, Proper, demand}
+use Rattle.model.specs.Demand.{spanned, spans-over, Proper, demand}
 use Rattle.model.specs.Exchange.{best-free}
 use Rattle.model.specs.Fate.{Over, Fate, kept, got, other, some-hold, fate}
 

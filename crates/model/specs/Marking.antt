@@ -2,7 +2,8 @@
 use mathlib.Core.Bool.{Bool, true, false, not}
 use mathlib.Core.List.{List, [], _∷_, _++_}
 use mathlib.Core.Option.{Option, none, some}
-use Prim.Native.Nat.{ℕ, zero, suc, pred, _+_, _-_, _*_}
+use mathlib.Core.Path.{_≡_}
+use Prim.Native.Nat.{ℕ, zero, suc, pred, _+_, _-_, _*_, _≤_, _<_}
 use lib.Dec.{leb, ltb, eqb}
 use Rattle.base.specs.Choice.{pick, both, either}
 use Rattle.base.specs.Sets.{lowest}
@@ -31,6 +32,14 @@ some? (some a) = true
 unfoldable pub legal : Requests → ℕ → Mark → Bool
 legal q i K = some? (previous q i)
 legal q i S = not (eqb (q .server i) (q .server (pred i)))
+
+-- the marks of the first n requests are legal
+abbrev pub Valid : Requests → (ℕ → Mark) → ℕ → Type 0
+Valid q m n = (i : ℕ) → 1 ≤ i → i ≤ n → legal q i (m i) ≡ true
+
+-- the requests among the first n that are not K
+unfoldable pub sent : (ℕ → Mark) → ℕ → ℕ
+sent m n = sum n (λ i. pick (keeps (m i)) 0 1)
 
 -- the gap before request i: from the request before it
 unfoldable pub gap : Requests → ℕ → ℕ
@@ -104,6 +113,10 @@ transfers q m source (suc i) =
 -- the lowest-numbered server that holds over the gap before request i
 unfoldable pub source : Requests → ℕ → (ℕ → Mark) → ℕ → ℕ → ℕ
 source q count m n i = lowest count (holds q m n i)
+
+-- each S of the first n requests has a source below the count that holds over the gap before it
+abbrev pub Good : ℕ → Requests → (ℕ → Mark) → ℕ → (ℕ → ℕ) → Type 0
+Good count q m n from = (i : ℕ) → 1 ≤ i → i ≤ n → m i ≡ S → (from i < count) × (holds q m n i (from i) ≡ true)
 
 -- the rows of a marking of n requests, with a source for each transfer
 unfoldable pub rows-from : Requests → ℕ → (ℕ → Mark) → ℕ → (ℕ → ℕ) → List Row

@@ -9,8 +9,7 @@ use Rattle.prices.specs.declared.Prices.{Prices}
 use Rattle.model.specs.Requests.{Requests, Rising, Within}
 use Rattle.model.specs.Schedule.{Row, Feasible, cost-of}
 use Rattle.model.specs.RowForm.{well-formed}
-use Rattle.model.specs.Marking.{Mark, holds, cost, source, rows-from, rows}
-use Rattle.model.specs.Valid.{Valid, Good}
+use Rattle.model.specs.Marking.{Mark, holds, cost, source, rows-from, rows, Valid, Good}
 use Rattle.model.specs.HolderLaws.{gap-held}
 use Rattle.model.specs.RowsFeasible.{rows-feasible}
 use Rattle.model.specs.RowsFormed.{rows-formed}

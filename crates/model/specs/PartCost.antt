@@ -13,8 +13,8 @@ use Rattle.model.specs.Sums.{sum}
 use Rattle.model.specs.SumLaws.{sum-same}
 use Rattle.model.specs.Requests.{Requests, previous}
 use Rattle.model.specs.RequestLaws.{previous-some, none-some}
-use Rattle.model.specs.Marking.{Mark, K, S, keeps, gap, begin, after, spans, any, covered, own, cost}
-use Rattle.model.specs.Valid.{Valid, kept-from}
+use Rattle.model.specs.Marking.{Mark, K, S, keeps, gap, begin, after, spans, any, covered, own, cost, Valid}
+use Rattle.model.specs.LegalLaws.{kept-from}
 use Rattle.model.specs.Table.{open-gap, table, send-price, best}
 use Rattle.model.specs.TableLaws.{span}
 use Rattle.model.specs.BestLaws.{best-S, best-K}

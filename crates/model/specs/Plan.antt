@@ -1,12 +1,14 @@
 -- The plan: of all legal markings with the least cost, at the latest request where two differ, the K (01's 'The plan'). Assumes nothing.
 use mathlib.Core.List.{List, [], _∷_, _++_, map}
-use Prim.Native.Nat.{ℕ, zero, suc}
+use mathlib.Core.Logic.{_≢_}
+use mathlib.Core.Path.{_≡_}
+use Prim.Native.Nat.{ℕ, zero, suc, _≤_, _<_}
 use lib.Dec.{ltb, eqb}
 use Rattle.base.specs.Choice.{pick}
 use Rattle.prices.specs.declared.Prices.{Prices}
 use Rattle.model.specs.Requests.{Requests}
 use Rattle.model.specs.Schedule.{Row}
-use Rattle.model.specs.Marking.{Mark, K, S, legal, cost, rows}
+use Rattle.model.specs.Marking.{Mark, K, S, legal, Valid, cost, rows}
 
 -- m with mark a at request i
 unfoldable pub put-mark : (ℕ → Mark) → ℕ → Mark → ℕ → Mark
@@ -40,3 +42,17 @@ plan-cost p q n = cost p q (plan p q n) n
 -- the plan's rows, with servers below the count
 unfoldable pub plan-rows : Prices → Requests → ℕ → ℕ → List Row
 plan-rows p q count n = rows q count (plan p q n) n
+
+-- two markings agree on the first n requests
+abbrev pub Agree : ℕ → (ℕ → Mark) → (ℕ → Mark) → Type 0
+Agree n m m′ = (i : ℕ) → 1 ≤ i → i ≤ n → m i ≡ m′ i
+
+-- at the latest of the first n requests where two markings differ, the first of them has K
+unfoldable pub Before : ℕ → (ℕ → Mark) → (ℕ → Mark) → Type 0
+Before n m m′ = (d : ℕ) → 1 ≤ d → d ≤ n → m d ≢ m′ d → ((i : ℕ) → d < i → i ≤ n → m i ≡ m′ i) → m d ≡ K
+
+-- 01's plan of n requests: a legal marking, of the least cost of all legal ones, and before all others of that cost
+pub record Planned (p : Prices) (q : Requests) (n : ℕ) (m : ℕ → Mark) : Type 0 where
+  pub lawful : Valid q m n
+  pub least : (m′ : ℕ → Mark) → Valid q m′ n → cost p q m n ≤ cost p q m′ n
+  pub before : (m′ : ℕ → Mark) → Valid q m′ n → cost p q m′ n ≡ cost p q m n → Before n m m′

@@ -12,12 +12,12 @@ use Rattle.prices.specs.declared.Prices.{Prices}
 use Rattle.model.specs.Requests.{Requests, previous}
 use Rattle.model.specs.RequestLaws.{none-some}
 use Rattle.model.specs.Marking.{Mark, K, S, legal, some?}
-use Rattle.model.specs.Plan.{put-mark, markings, least-of, plan, plan-cost}
+use Rattle.model.specs.Plan.{put-mark, markings, least-of, plan, plan-cost, Agree, Planned}
 use Rattle.model.specs.Table.{send-price, best}
 use Rattle.model.specs.TableLaws.{span}
 use Rattle.model.specs.BestLaws.{legal-K, legal-S, with-S, with-K, best-none, best-forced, best-both}
 use Rattle.model.specs.PartCost.{part, part-cost, part-S, part-K, part-same}
-use Rattle.model.specs.Ties.{Agree, Planned, planned-once, First, first-zero, first-same, first-K, first-S, first-planned}
+use Rattle.model.specs.Ties.{planned-once, First, first-zero, first-same, first-K, first-S, first-planned}
 use Rattle.model.specs.LeastLaws.{Filled, filled-append, filled-map, lesser, lesser-first, lesser-second, least-append, least-map}
 
 -- the mark put there

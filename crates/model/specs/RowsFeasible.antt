@@ -8,8 +8,7 @@ use Prim.Native.Nat.{ℕ, zero, suc, _≤_, _<_}
 use Rattle.model.specs.Requests.{Requests, Rising, Within}
 use Rattle.model.specs.RequestLaws.{rises, rises-le}
 use Rattle.model.specs.Schedule.{hold, move, transfer, Stands, at-home, held, arrived, Feasible}
-use Rattle.model.specs.Marking.{Mark, K, S, holds, all-holds, transfers, rows-from}
-use Rattle.model.specs.Valid.{Valid, Good}
+use Rattle.model.specs.Marking.{Mark, K, S, holds, all-holds, transfers, rows-from, Valid, Good}
 use Rattle.model.specs.HolderLaws.{kept-held, new-holder}
 use Rattle.model.specs.RunLaws.{Run, run-over}
 use Rattle.model.specs.RowMembers.{Held, Sent, all-holds-in, transfers-in, rows-row}

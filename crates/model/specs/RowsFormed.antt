@@ -12,8 +12,7 @@ use Rattle.model.specs.RequestLaws.{rises, rises-le}
 use Rattle.model.specs.Schedule.{Row, hold, move, transfer}
 use Rattle.model.specs.RowForm.{fits, earlier, follows, ordered, well-formed}
 use Rattle.model.specs.FormLaws.{ordered-append, formed}
-use Rattle.model.specs.Marking.{Mark, K, S, keeps, begins-run, run-end, holds, hold-rows, all-holds, transfers, rows-from}
-use Rattle.model.specs.Valid.{Valid, Good}
+use Rattle.model.specs.Marking.{Mark, K, S, keeps, begins-run, run-end, holds, hold-rows, all-holds, transfers, rows-from, Valid, Good}
 use Rattle.model.specs.HolderLaws.{sent-unheld}
 use Rattle.model.specs.RunLaws.{Run, begins-true, hold-rows-run}
 use Rattle.model.specs.RowMembers.{Held, Sent, all-holds-row, transfers-row, rows-row}

@@ -1,4 +1,4 @@
--- The tie rule: what marks a plan must have, that they are unique, and how they grow request by request.
+-- The tie rule: a plan's marks are unique, and how they grow request by request.
 use mathlib.Core.Bool.{true}
 use mathlib.Core.Logic.{_⊎_, inl, inr, _≢_}
 use mathlib.Core.Option.{some}
@@ -9,25 +9,12 @@ use Rattle.base.specs.Choice.{le-or-lt}
 use Rattle.prices.specs.declared.Prices.{Prices}
 use Rattle.model.specs.Sums.{sum}
 use Rattle.model.specs.Requests.{Requests, previous}
-use Rattle.model.specs.Marking.{Mark, K, S, legal, cost}
-use Rattle.model.specs.Valid.{Valid, kept-from}
+use Rattle.model.specs.Marking.{Mark, K, S, legal, Valid, cost}
+use Rattle.model.specs.Plan.{Agree, Before, Planned}
+use Rattle.model.specs.LegalLaws.{kept-from}
 use Rattle.model.specs.Table.{table, best}
 use Rattle.model.specs.BestLaws.{legal-K, with-S, with-K}
 use Rattle.model.specs.PartCost.{part, part-cost, part-S, part-K, part-same, best-part, best-cost}
-
--- two markings agree on the first n requests
-abbrev pub Agree : ℕ → (ℕ → Mark) → (ℕ → Mark) → Type 0
-Agree n m m′ = (i : ℕ) → 1 ≤ i → i ≤ n → m i ≡ m′ i
-
--- at the latest of the first n requests where two markings differ, the first of them has K
-unfoldable pub Before : ℕ → (ℕ → Mark) → (ℕ → Mark) → Type 0
-Before n m m′ = (d : ℕ) → 1 ≤ d → d ≤ n → m d ≢ m′ d → ((i : ℕ) → d < i → i ≤ n → m i ≡ m′ i) → m d ≡ K
-
--- 01's plan of n requests: a legal marking, of the least cost of all legal ones, and before all others of that cost
-pub record Planned (p : Prices) (q : Requests) (n : ℕ) (m : ℕ → Mark) : Type 0 where
-  pub lawful : Valid q m n
-  pub least : (m′ : ℕ → Mark) → Valid q m′ n → cost p q m n ≤ cost p q m′ n
-  pub before : (m′ : ℕ → Mark) → Valid q m′ n → cost p q m′ n ≡ cost p q m n → Before n m m′
 
 -- two marks are the same or not
 same-mark : (a b : Mark) → (a ≡ b) ⊎ (a ≢ b)

@@ -16,13 +16,13 @@ use Rattle.prices.specs.declared.Prices.{Prices}
 use Rattle.model.specs.Requests.{Requests, previous}
 use Rattle.model.specs.RequestLaws.{previous-some, none-some}
 use Rattle.model.specs.Marking.{Mark, K, S, legal}
-use Rattle.model.specs.Plan.{plan}
+use Rattle.model.specs.Plan.{plan, Agree}
 use Rattle.model.specs.Table.{open-gap, send-price, best}
 use Rattle.model.specs.TableLaws.{span, open-gap-shut}
 use Rattle.model.specs.BestLaws.{legal-S, with-S, with-K, best-none, best-forced, best-both}
 use Rattle.model.specs.TableRows.{Tabled, kept-best}
 use Rattle.model.specs.TableLists.{at, lists, lists-tabled}
-use Rattle.model.specs.Ties.{Agree, First, first-zero, first-same, first-K, first-S, first-planned}
+use Rattle.model.specs.Ties.{First, first-zero, first-same, first-K, first-S, first-planned}
 use Rattle.model.specs.PlanLaws.{plan-only}
 
 -- the marking of a list of marks, those of request 1 and on

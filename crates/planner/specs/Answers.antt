@@ -4,6 +4,7 @@ use Prim.Native.Nat.{ℕ, suc}
 use lib.ListN.{length}
 use Rattle.base.specs.Lists.{build}
 use Rattle.base.specs.Refusals.{first, short}
+use Rattle.base.specs.Lent.{lent}
 use Rattle.base.specs.declared.Verdict.{Verdict}
 use Rattle.base.specs.declared.Verdict.the-variants.{Passed, Refused}
 use Rattle.log.specs.Fields.{server-count, request-count}
@@ -45,6 +46,13 @@ unfoldable pub planned : Verdict → List ℕ → Planned
 planned Passed log = planned′.Plan (plan-cost (prices-in log) (requests-in log) (request-count log)) (length (planned-rows log))
 planned (Refused r) log = planned′.Refused r
 
+-- what the lent lists hold at the end
+abbrev pub marks-left : List ℕ → List ℕ → List ℕ → List ℕ
+marks-left log marks rows = lent (plan-verdict log (length marks) (length rows)) (marks-of log) marks
+
+abbrev pub rows-left : List ℕ → List ℕ → List ℕ → List ℕ
+rows-left log marks rows = lent (plan-verdict log (length marks) (length rows)) (rows-of-plan log) rows
+
 -- the least cost of each number of a log's first requests, from none to all
 unfoldable pub least-costs : List ℕ → List ℕ
 least-costs log = build (suc (request-count log)) (λ k. plan-cost (prices-in log) (requests-in log) k)
@@ -57,3 +65,7 @@ least-verdict log costs = first (log-conditions log ++ (short (suc (request-coun
 unfoldable pub least-answer : Verdict → List ℕ → LeastCosts
 least-answer Passed log = least′.Costs (suc (request-count log))
 least-answer (Refused r) log = least′.Refused r
+
+-- what the lent list holds at the end
+abbrev pub costs-left : List ℕ → List ℕ → List ℕ
+costs-left log costs = lent (least-verdict log (length costs)) (least-costs log) costs

@@ -12,10 +12,10 @@ use Rattle.base.specs.SetLaws.{has-none, has-put, has-put-other, has-cut, has-c
 use Rattle.base.specs.LowestLaws.{lowest-is}
 use Rattle.model.specs.Requests.{Requests, Within}
 use Rattle.model.specs.RequestLaws.{previous-some}
-use Rattle.model.specs.Marking.{Mark, K, S, keeps, spans, any, covered, holds}
+use Rattle.model.specs.Marking.{Mark, K, S, keeps, spans, any, covered, holds, Valid}
 use Rattle.base.specs.ChoiceLaws.{both-true}
 use Rattle.model.specs.TestLaws.{any-true, any-has}
-use Rattle.model.specs.Valid.{Valid, kept-from}
+use Rattle.model.specs.LegalLaws.{kept-from}
 use Rattle.model.specs.HolderLaws.{Span, spans-true, spans-over}
 use Rattle.planner.specs.HolderWords.{joined, kept-step, kept-word, or-server, holders-word}
 

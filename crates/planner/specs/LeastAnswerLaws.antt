@@ -24,7 +24,7 @@ use Rattle.model.specs.TableLists.{lists, lists-length, lists-costs}
 use Rattle.model.specs.LogRequests.{requests-in, prices-in}
 use Rattle.planner.specs.declared.LeastCosts.{LeastCosts}
 use Rattle.planner.specs.declared.requests.Setup.{Setup}
-use Rattle.planner.specs.Answers.{least-costs, least-verdict, least-answer}
+use Rattle.planner.specs.Answers.{least-costs, least-verdict, least-answer, costs-left}
 use Rattle.planner.specs.LeastAnswer.{costs-answer}
 use Rattle.planner.specs.Loading.{setup-of}
 
@@ -53,7 +53,7 @@ costs-lent p q n o h = lent-front (lists p q n .costs) o (suc n) (lists-length p
 abbrev pub Least-so : List ℕ → List ℕ → LeastCosts → List ℕ → Type 0
 Least-so log costs r costs′ =
     (r ≡ least-answer (least-verdict log (length costs)) log)
-    × (costs′ ≡ lent (least-verdict log (length costs)) (least-costs log) costs)
+    × (costs′ ≡ costs-left log costs)
 
 -- a refused log
 pub least-refused : (log costs : List ℕ) (e : Refusal) (r : LeastCosts) → verdict-of log ≡ Refused e → r ≡ costs-answer (Refused e) 0 → Least-so log costs r costs

@@ -1,6 +1,8 @@
--- The planner: what its calls answer, and the laws by which the code comes by it.
+-- The planner.
+-- What a reader believes: what its calls answer.
 pub mod Answers
 pub mod Sizes
+-- How the code comes by it, and why that is the same.
 pub mod Asked
 pub mod Terms
 pub mod Fits

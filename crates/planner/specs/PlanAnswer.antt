@@ -12,9 +12,8 @@ use Rattle.prices.specs.declared.Prices.{Prices}
 use Rattle.model.specs.Requests.{Requests, Within}
 use Rattle.model.specs.Schedule.{Row}
 use Rattle.model.specs.RowForm.{flat}
-use Rattle.model.specs.Marking.{rows}
+use Rattle.model.specs.Marking.{rows, Valid}
 use Rattle.model.specs.Plan.{plan, plan-cost, plan-rows}
-use Rattle.model.specs.Valid.{Valid}
 use Rattle.planner.specs.declared.Planned.{Planned}
 use Rattle.planner.specs.HolderWords.{marking}
 use Rattle.planner.specs.Asked.{asks}

@@ -17,11 +17,9 @@ use Rattle.base.specs.declared.Verdict.the-variants.{Passed, Refused}
 use Rattle.log.specs.Fields.{request-count}
 use Rattle.log.specs.Conditions.{log-conditions, verdict-of, Accepted}
 use Rattle.model.specs.Requests.{Requests, requests, Within}
-use Rattle.model.specs.Marking.{Mark, K, S, legal, rows}
-use Rattle.model.specs.Valid.{Valid}
-use Rattle.model.specs.Ties.{Agree}
+use Rattle.model.specs.Marking.{Mark, K, S, legal, rows, Valid}
 use Rattle.model.specs.TableRows.{Tabled}
-use Rattle.model.specs.Plan.{plan, plan-cost, plan-rows}
+use Rattle.model.specs.Plan.{plan, plan-cost, plan-rows, Agree}
 use Rattle.model.specs.PlanLaws.{plan-planned, plan-best}
 use Rattle.model.specs.LogRequests.{requests-in, prices-in}
 use Rattle.prices.specs.declared.Prices.{Prices}
@@ -31,7 +29,7 @@ use Rattle.planner.specs.Loading.{setup-of}
 use Rattle.planner.specs.HolderWords.{gap-word, marking}
 use Rattle.planner.specs.Asked.{asks}
 use Rattle.planner.specs.WordRowLaws.{gap-words-right, word-rows-right}
-use Rattle.planner.specs.Answers.{letter, marks-of, planned-rows, rows-of-plan, plan-verdict, planned}
+use Rattle.planner.specs.Answers.{letter, marks-of, planned-rows, rows-of-plan, plan-verdict, planned, marks-left, rows-left}
 use Rattle.planner.specs.PlanAnswer.{Marked, Answered, Plan-answered, marked-rows, plan-letters, lengths-verdict, answer-of}
 
 -- a letter spells its mark
@@ -119,8 +117,8 @@ module _ (p : Prices) (n count : ℕ) (seconds servers letters : List ℕ)
 abbrev pub Planned-so : List ℕ → List ℕ → List ℕ → Planned → List ℕ → List ℕ → Type 0
 Planned-so log marks rows r marks′ rows′ =
     (r ≡ planned (plan-verdict log (length marks) (length rows)) log)
-    × (marks′ ≡ lent (plan-verdict log (length marks) (length rows)) (marks-of log) marks)
-    × (rows′ ≡ lent (plan-verdict log (length marks) (length rows)) (rows-of-plan log) rows)
+    × (marks′ ≡ marks-left log marks rows)
+    × (rows′ ≡ rows-left log marks rows)
 
 -- a refused log
 pub log-refused : (log marks rows : List ℕ) (e : Refusal) (r : Planned) → verdict-of log ≡ Refused e → r ≡ answer-of (Refused e) 0 0

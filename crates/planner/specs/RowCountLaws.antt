@@ -19,7 +19,7 @@ use Rattle.model.specs.Schedule.{Row, move, transfer}
 use Rattle.model.specs.Marking.{Mark, keeps, begins-run, hold-rows, all-holds, transfers, source, rows-from, rows}
 use Rattle.model.specs.HolderLaws.{Holder, by-span, by-gap, holds-true}
 use Rattle.model.specs.RunLaws.{hold-rows-count}
-use Rattle.model.specs.Ties.{Agree}
+use Rattle.model.specs.Plan.{Agree}
 use Rattle.planner.specs.WordRows.{holder-at, word-holds}
 use Rattle.planner.specs.WordRowLaws.{Right, word-holds-right}
 use Rattle.planner.specs.RowCount.{begun, sent-at, row-count}

@@ -11,9 +11,8 @@ use Rattle.base.specs.Lists.{build, build-at}
 use Rattle.base.specs.LowestLaws.{lowest-same, lowest-wider, lowest-passes}
 use Rattle.model.specs.Requests.{Requests, Within}
 use Rattle.model.specs.Schedule.{Row}
-use Rattle.model.specs.Marking.{Mark, holds, begins-run, run-end, hold-rows, all-holds, transfers, source, rows-from, rows}
-use Rattle.model.specs.Valid.{Valid}
-use Rattle.model.specs.Ties.{Agree}
+use Rattle.model.specs.Marking.{Mark, holds, begins-run, run-end, hold-rows, all-holds, transfers, source, rows-from, rows, Valid}
+use Rattle.model.specs.Plan.{Agree}
 use Rattle.model.specs.HolderLaws.{gap-held}
 use Rattle.planner.specs.HolderWords.{kept-word, holders-word, gap-word}
 use Rattle.planner.specs.HolderWordLaws.{holders-has}

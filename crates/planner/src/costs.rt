@@ -6,24 +6,26 @@ ghost use lib.ListN.{length};
 ghost use Rattle.base.specs.Lent.{lent};
 ghost use Rattle.base.specs.Refusals.{first, short};
 ghost use Rattle.model.specs.TableLists.{lists};
-ghost use Rattle.planner.specs.Answers.{least-costs, least-verdict, least-answer};
+ghost use Rattle.planner.specs.Answers.{least-verdict, least-answer, costs-left};
 ghost use Rattle.planner.specs.Asked.{asks};
 ghost use Rattle.planner.specs.Fits.{Ready};
 ghost use Rattle.planner.specs.LeastAnswer.{costs-answer};
 use crate::LeastCosts;
-use crate::reads::size;
 use crate::requests::Loaded;
 use crate::requests::Setup;
 use crate::requests::load;
 use crate::table::fill;
 use base::Refusal;
 use base::bytes::clear64;
+use base::widths::size_from_u16;
+use base::widths::u32_from_u16;
+use base::widths::u64_from_size;
 
 // How many costs n requests have.
 fn prefixes(n: u16) -> u32
     ensures { λ r. ⌜ r ≡ suc n ⌝ }
 {
-    n as u32 + 1
+    u32_from_u16(n) + 1
 }
 
 // The least costs of the requests that were read.
@@ -38,11 +40,11 @@ fn costs_of(
     ensures { λ r. ⌜ r ≡ costs-answer (first (short (suc (setup .requests)) (length (now (costs .entry))) ∷ [])) (setup .requests) ⌝ }
     ensures { λ _. ⌜ now (costs .exit) ≡ lent (first (short (suc (setup .requests)) (length (now (costs .entry))) ∷ [])) (lists (setup .prices) (asks (now (seconds .entry)) (now (servers .entry))) (setup .requests) .costs) (now (costs .entry)) ⌝ }
 {
-    let needed = size(setup.requests) + 1;
+    let needed = size_from_u16(setup.requests) + 1;
     if costs.len() < needed {
         return LeastCosts::Refused(Refusal {
             number: 31,
-            place: needed as u64,
+            place: u64_from_size(needed),
         });
     }
     let mut keeps = [0u64; 2049];
@@ -62,7 +64,7 @@ fn costs_of(
 // The least cost of each number of a log's first requests, from none to all (01's 'The plan').
 pub fn least(log: &[u8], costs: &mut [u64]) -> LeastCosts
     ensures { λ r. ⌜ r ≡ least-answer (least-verdict (now (log .entry)) (length (now (costs .entry)))) (now (log .entry)) ⌝ }
-    ensures { λ _. ⌜ now (costs .exit) ≡ lent (least-verdict (now (log .entry)) (length (now (costs .entry)))) (least-costs (now (log .entry))) (now (costs .entry)) ⌝ }
+    ensures { λ _. ⌜ now (costs .exit) ≡ costs-left (now (log .entry)) (now (costs .entry)) ⌝ }
 {
     let mut seconds = [0u32; 2049];
     let mut servers = [0u16; 2049];

@@ -10,10 +10,10 @@ ghost use Rattle.planner.specs.HolderWords.{kept-step, or-server, gap-wo
 ghost use Rattle.planner.specs.RowCount.{row-count};
 use crate::reads::kept;
 use crate::reads::server;
-use crate::reads::size;
 use crate::reads::word;
 use base::sets::cut;
 use base::sets::put;
+use base::widths::size_from_u16;
 
 // The servers kept over a gap, from those kept over the next one, the server of the request between them and whether it is K.
 fn kept_step(w: u64, x: u16, kept: bool) -> u64
@@ -43,7 +43,7 @@ fn capped(n: u16) -> usize
     if 2048 < n {
         return 2048;
     }
-    size(n)
+    size_from_u16(n)
 }
 
 // The holders over gaps 1 to n, the word of each at its gap's place.
@@ -92,7 +92,7 @@ pub fn row_count(words: &[u64], letters: &[u8], n: u16) -> u32
 {
     let mut rows: u32 = 0;
     let mut k: usize = 0;
-    let end = size(n);
+    let end = size_from_u16(n);
     while k < end {
         let next = k + 1;
         rows += begun(word(words, next), word(words, k)) + sent(kept(letters, k));

@@ -1,17 +1,17 @@
 // The planner: the cheapest schedule that there could have been, and the least cost of every prefix.
-mod answer;
 mod costs;
 mod holders;
+mod planning;
 mod reads;
 mod requests;
 mod rows;
 mod table;
 mod walk;
 
-pub use answer::plan;
 use base::Refusal;
 pub use costs::least;
 use log::MOST_REQUESTS;
+pub use planning::plan;
 
 // The plan's cost and the number of its rows, or why there is no plan.
 pub enum Planned {

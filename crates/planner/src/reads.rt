@@ -1,6 +1,6 @@
 // Reads of the planner's lists that are total: 0 past the end.
 ghost use mathlib.Core.Path.{_≡_};
-ghost use Prim.Native.Nat.{suc, _<_};
+ghost use Prim.Native.Nat.{suc};
 ghost use lib.ListN.{getD};
 ghost use Rattle.model.specs.Marking.{keeps};
 ghost use Rattle.planner.specs.HolderWords.{marking};
@@ -41,11 +41,4 @@ pub fn kept(letters: &[u8], i: usize) -> bool
     ensures { λ r. ⌜ r ≡ keeps (marking (now (letters .entry)) (suc i)) ⌝ }
 {
     at(letters, i) == 75
-}
-
-// A number of requests.
-pub fn size(n: u16) -> usize
-    ensures { λ r. ⌜ (r ≡ n) × (r < 65536) ⌝ }
-{
-    n as usize
 }

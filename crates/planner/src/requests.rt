@@ -11,9 +11,10 @@ ghost use Rattle.log.specs.Answers.{decoded};
 ghost use Rattle.model.specs.TableLists.{at};
 ghost use Rattle.planner.specs.Loading.{seconds-with-home, servers-with-home, links, loaded};
 use crate::NONE;
-use crate::reads::size;
 use base::Refusal;
 use base::bytes::clear16;
+use base::widths::size_from_u16;
+use base::widths::u16_from_u8;
 use log::Decoded;
 use log::ReadOutcome;
 use log::read;
@@ -33,20 +34,14 @@ pub enum Loaded {
     Refused(Refusal),
 }
 
-fn half(x: u8) -> u16
-    ensures { λ r. ⌜ r ≡ x ⌝ }
-{
-    x as u16
-}
-
 // The previous request of request i, and i as the most recent at its server.
 fn link_one(servers: &[u16; 2049], i: u16, recent: &mut [u16; 64], previous: &mut [u16])
     requires { ⌜ (i ≤ 2048) × (at (now servers) i < 64) × (length (now previous) ≡ 2049) ⌝ }
     ensures { λ _. ⌜ now (recent .exit) ≡ set (now (recent .entry)) (at (now (servers .entry)) i) i ⌝ }
     ensures { λ _. ⌜ now (previous .exit) ≡ set (now (previous .entry)) i (at (now (recent .entry)) (at (now (servers .entry)) i)) ⌝ }
 {
-    let k = size(i);
-    let y = size(servers[k]);
+    let k = size_from_u16(i);
+    let y = size_from_u16(servers[k]);
     previous[k] = recent[y];
     recent[y] = i;
 }
@@ -62,7 +57,7 @@ fn link(servers: &[u16; 2049], n: u16, previous: &mut [u16])
         link_one(servers, i, &mut recent, previous);
         i += 1;
     }
-    clear16(previous, size(n) + 1);
+    clear16(previous, size_from_u16(n) + 1);
 }
 
 // Read a log, its requests from index 1 on.
@@ -94,7 +89,7 @@ pub fn load(
         ReadOutcome::Refused(r) => Loaded::Refused(r),
         ReadOutcome::Requests(n) => {
             seconds[0] = 0;
-            servers[0] = half(header.home);
+            servers[0] = u16_from_u8(header.home);
             link(servers, n, previous);
             Loaded::Log(Setup {
                 requests: n,

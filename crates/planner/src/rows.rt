@@ -13,28 +13,19 @@ ghost use Rattle.planner.specs.WordRows.{holder-at, new-hold, word-holds
 use crate::reads::kept;
 use crate::reads::second;
 use crate::reads::server;
-use crate::reads::size;
 use crate::reads::word;
 use base::sets::has;
 use base::sets::lowest;
-
-fn number(x: u16) -> u32
-    ensures { λ r. ⌜ r ≡ x ⌝ }
-{
-    x as u32
-}
-
-fn index(k: u32) -> usize
-    ensures { λ r. ⌜ (r ≡ k) × (r < 4294967296) ⌝ }
-{
-    k as usize
-}
+use base::widths::size_from_u16;
+use base::widths::size_from_u32;
+use base::widths::u16_from_u8;
+use base::widths::u32_from_u16;
 
 // Four numbers as row k, where they fit.
 fn put_row(out: &mut [u32], k: u32, kind: u32, a: u32, b: u32, c: u32)
     ensures { λ _. ⌜ now (out .exit) ≡ splice (4 * k) (kind ∷ a ∷ b ∷ c ∷ []) (now (out .entry)) ⌝ }
 {
-    let at = 4 * index(k);
+    let at = 4 * size_from_u32(k);
     if out.len() < at + 4 {
         return;
     }
@@ -96,7 +87,14 @@ fn put_hold(
         return at;
     }
     let end = last_of_run(words, y, gap, n);
-    put_row(out, at, 0, number(y), second(times, k), second(times, end));
+    put_row(
+        out,
+        at,
+        0,
+        u32_from_u16(y),
+        second(times, k),
+        second(times, end),
+    );
     at + 1
 }
 
@@ -157,7 +155,7 @@ fn put_transfer(
         at,
         1,
         source(word(words, i)),
-        number(server(servers, i)),
+        u32_from_u16(server(servers, i)),
         second(times, i),
     );
     at + 1
@@ -184,12 +182,6 @@ fn put_transfers(
     }
 }
 
-fn half(x: u8) -> u16
-    ensures { λ r. ⌜ (r ≡ x) × (r < 256) ⌝ }
-{
-    x as u16
-}
-
 // The rows of n requests, into the front of a list.
 pub fn put_all(
     times: &[u32],
@@ -202,7 +194,7 @@ pub fn put_all(
 )
     ensures { λ _. ⌜ now (out .exit) ≡ put-rows 0 (word-rows (asks (now (times .entry)) (now (servers .entry))) (now (words .entry)) count (marking (now (letters .entry))) n) (now (out .entry)) ⌝ }
 {
-    let end = size(n);
-    let next = put_holds(times, words, end, half(count), out);
+    let end = size_from_u16(n);
+    let next = put_holds(times, words, end, u16_from_u8(count), out);
     put_transfers(times, servers, words, letters, end, next, out);
 }

@@ -9,7 +9,8 @@ ghost use Rattle.planner.specs.Asked.{asks};
 ghost use Rattle.planner.specs.Terms.{terms-of, cheaper, own-cost, next-cost};
 ghost use Rattle.planner.specs.Fits.{Ready, Owned};
 use crate::NONE;
-use crate::reads::size;
+use base::widths::size_from_u16;
+use base::widths::u64_from_u32;
 use prices::Prices;
 
 // What a request may be, and what that adds to the cost: the request that it can be kept from (NONE where there is none),
@@ -21,18 +22,12 @@ pub(crate) struct Terms {
     pub(crate) gap: u64,
 }
 
-pub(crate) fn wide(x: u32) -> u64
-    ensures { λ r. ⌜ (r ≡ x) × (r < 2 ^ 32) ⌝ }
-{
-    x as u64
-}
-
 // What it costs to hold from one second to another.
 fn held(hold: u32, from: u32, to: u32) -> u64
     requires { ⌜ from ≤ to ⌝ }
     ensures { λ r. ⌜ r ≡ hold * (to - from) ⌝ }
 {
-    wide(hold) * wide(to - from)
+    u64_from_u32(hold) * u64_from_u32(to - from)
 }
 
 // The terms of request i + 1.
@@ -46,7 +41,7 @@ pub(crate) fn terms_at(
     requires { ⌜ Ready prices (now seconds) (now servers) (now previous) (suc i) ⌝ }
     ensures { λ r. ⌜ r ≡ terms-of prices (asks (now (seconds .entry)) (now (servers .entry))) i ⌝ }
 {
-    let k = size(i);
+    let k = size_from_u16(i);
     let from = previous[k + 1];
     let second = seconds[k + 1];
     let sendable = servers[k + 1] != servers[k];
@@ -59,7 +54,7 @@ pub(crate) fn terms_at(
             gap,
         };
     }
-    let j = size(from);
+    let j = size_from_u16(from);
     let span = held(prices.hold, seconds[j], second);
     Terms {
         from,
@@ -103,7 +98,7 @@ fn own_cost(
     ensures { λ r. ⌜ r ≡ own-cost (prices .transfer) (terms-of prices (asks (now (seconds .entry)) (now (servers .entry))) i) ⌝ }
 {
     let a = terms_at(prices, seconds, servers, previous, i);
-    cheaper(a, wide(prices.transfer), a.span)
+    cheaper(a, u64_from_u32(prices.transfer), a.span)
 }
 
 // That of each of n requests, from place 1 of a list on.
@@ -121,7 +116,7 @@ fn own_costs(
 {
     let mut i: u16 = 0;
     while i < n {
-        let k = size(i);
+        let k = size_from_u16(i);
         owns[k + 1] = own_cost(prices, seconds, servers, previous, i);
         i += 1;
     }
@@ -133,7 +128,7 @@ fn next_cost(transfer: u32, from: u16, own: u64, d: u64, v: u64) -> u64
     ensures { λ r. ⌜ r ≡ next-cost transfer from own d v ⌝ }
 {
     if from == NONE {
-        return wide(transfer) + v;
+        return u64_from_u32(transfer) + v;
     }
     least(own + v, d)
 }
@@ -156,8 +151,8 @@ fn row(
     requires { ⌜ (c ≤ i) × (i < length (now costs)) × (i < length (now keeps)) ⌝ }
     ensures { λ r. ⌜ r ≡ row prices (asks (now (seconds .entry)) (now (servers .entry))) (at (now (costs .entry))) (at (now (keeps .entry))) c i ⌝ }
 {
-    let end = size(i);
-    let mut k = size(c);
+    let end = size_from_u16(i);
+    let mut k = size_from_u16(c);
     let mut v = costs[k];
     while k < end {
         k += 1;
@@ -219,10 +214,10 @@ fn extend(
     ensures { λ _. ⌜ now (costs .exit) ≡ set (now (costs .entry)) (suc i) (next-C prices (asks (now (seconds .entry)) (now (servers .entry))) i (next-D prices (asks (now (seconds .entry)) (now (servers .entry))) (at (now (costs .entry))) (at (now (keeps .entry))) i) (at (now (costs .entry)) i)) ⌝ }
     ensures { λ _. ⌜ now (keeps .exit) ≡ set (now (keeps .entry)) (suc i) (next-D prices (asks (now (seconds .entry)) (now (servers .entry))) (at (now (costs .entry))) (at (now (keeps .entry))) i) ⌝ }
 {
-    let k = size(i);
+    let k = size_from_u16(i);
     let a = terms_at(prices, seconds, servers, previous, i);
     let d = next_keep(prices, seconds, servers, previous, owns, costs, keeps, a, i);
-    let sent = wide(prices.transfer) + a.gap + costs[k];
+    let sent = u64_from_u32(prices.transfer) + a.gap + costs[k];
     costs[k + 1] = cheaper(a, sent, d);
     keeps[k + 1] = d;
 }

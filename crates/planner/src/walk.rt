@@ -14,10 +14,10 @@ ghost use Rattle.planner.specs.Terms.{kept-by, sent-by};
 ghost use Rattle.planner.specs.Fits.{Ready};
 ghost use Rattle.planner.specs.Walked.{turned, Keeps};
 use crate::NONE;
-use crate::reads::size;
 use crate::table::Terms;
 use crate::table::terms_at;
-use crate::table::wide;
+use base::widths::size_from_u16;
+use base::widths::u64_from_u32;
 use prices::Prices;
 
 // One step back: the letter of a request, and c and v for the requests before it.
@@ -79,7 +79,7 @@ fn step_back(
     ensures { λ r. ⌜ r ≡ turned prices (asks (now (seconds .entry)) (now (servers .entry))) i c d v ⌝ }
 {
     let a = terms_at(prices, seconds, servers, previous, i);
-    let transfer = wide(prices.transfer);
+    let transfer = u64_from_u32(prices.transfer);
     if kept(transfer, a, c, d, v) {
         return Turn {
             letter: 75,
@@ -110,13 +110,13 @@ pub(crate) fn write_marks(
     requires { ⌜ (n < length (now costs)) × (n < length (now keeps)) × (n ≤ length (now letters)) ⌝ }
     ensures { λ _. ⌜ now (letters .exit) ≡ build n (λ i. letter (plan prices (asks (now (seconds .entry)) (now (servers .entry))) n (suc i))) ++ drop n (now (letters .entry)) ⌝ }
 {
-    let end = size(n);
+    let end = size_from_u16(n);
     let mut c = n;
     let mut v = costs[end];
     let mut i = n;
     while 0 < i {
         let before = i - 1;
-        let k = size(before);
+        let k = size_from_u16(before);
         let t = step_back(
             prices,
             seconds,

@@ -1,4 +1,6 @@
--- The definitions of crate prices, and their laws.
+-- Crate prices.
+-- What a reader believes: the definitions.
 pub mod Prices
+-- What is proved of them.
 pub mod PriceLaws
 pub mod WindowLaws

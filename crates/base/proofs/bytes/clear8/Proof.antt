@@ -1,24 +1,20 @@
--- `base::bytes::clear8` meets its contract: when the loop stands at i, the list has 0 from `from` up to i.
--- Assumes nothing.
+-- `base::bytes::clear8` meets its contract. Assumes nothing.
 use borrow.Author.Needs.{needs}
-use mathlib.Core.List.{List}
-use mathlib.Core.Path.{_≡_, ap, _∙_}
-use Prim.Native.Nat.{ℕ, _-_, _≤_}
+use Prim.Native.Nat.{_-_}
 use native.Mathlib.Omega.{arith}
-use lib.ListN.{length, set, length-set}
-use Rattle.base.proofs.Clearing.{wiped, wiped-none, wiped-more, wiped-all}
+use lib.ListN.{length}
+use Rattle.base.proofs.Clearing.{Clearing, clearing-begins, clearing-next, clearing-ends}
 use Rattle.base.proofs.bytes.clear8.Statement.{statement}
 use Rattle.base.proofs.bytes.clear8.Tie as tie
 
 abbrev Inv-loop : tie.InvT-loop
-Inv-loop out₀ from i₀ out i =
-    (from ≤ i) × (i - from ≤ length out₀ - from) × (length out ≡ length out₀) × (out ≡ wiped from i out₀)
+Inv-loop out₀ from i₀ out i = Clearing out₀ from out i
 
 abbrev μ-loop : tie.MeasureT-loop
 μ-loop out₀ from i₀ out i = length out₀ - i
 
 loop-holds : tie.Need-loop-holds Inv-loop μ-loop
-loop-holds c = (search needs, search needs, search needs, wiped-none (c .args .from) (c .args .out .now))
+loop-holds c = clearing-begins (c .args .from) (c .args .out .now)
 
 slice-write-out : tie.Need-slice-write-out Inv-loop μ-loop
 slice-write-out c = search needs
@@ -32,12 +28,8 @@ loop-less c = search needs
 loop-again : tie.Need-loop-again Inv-loop μ-loop
 loop-again c =
     let a = c .before .before .args in
-    let l = c .before .loop in (
-      search needs,
-      omega arith,
-      simp length-set (omega arith),
-      ap (λ (x : List ℕ). set x (l .i) 0) (l .inv .3) ∙ wiped-more (a .from) (l .i) (a .out .now) (omega arith) (omega arith),
-    )
+    let l = c .before .loop in
+    clearing-next (a .from) (a .out .now) (l .out) (l .i) (l .inv) (omega arith)
 
 same-length : tie.Need-same-length Inv-loop μ-loop
 same-length c = search needs
@@ -46,7 +38,7 @@ returns : tie.Need-returns Inv-loop μ-loop
 returns c =
     let a = c .before .before .args in
     let l = c .before .loop in
-    l .inv .3 ∙ wiped-all (a .from) (l .i) (a .out .now) (omega arith) (omega arith)
+    clearing-ends (a .from) (a .out .now) (l .out) (l .i) (l .inv) (omega arith)
 
 pub clear8-spec : {M : Type 1} → statement M
 clear8-spec =

@@ -11,8 +11,8 @@ returns c = sym (le32-past (c .before .before .args .s .now) (c .before .before 
 at16-requires : tie.Need-at16-requires
 at16-requires c κs = search needs
 
-word-requires : tie.Need-word-requires
-word-requires c κs = search needs
+u32-from-u16-requires : tie.Need-u32-from-u16-requires
+u32-from-u16-requires c κs = search needs
 
 add-at16 : tie.Need-add-at16
 add-at16 c = search needs
@@ -20,8 +20,8 @@ add-at16 c = search needs
 at16-requires-2 : tie.Need-at16-requires-2
 at16-requires-2 c κs = search needs
 
-word-requires-2 : tie.Need-word-requires-2
-word-requires-2 c κs = search needs
+u32-from-u16-requires-2 : tie.Need-u32-from-u16-requires-2
+u32-from-u16-requires-2 c κs = search needs
 
 mul-result : tie.Need-mul-result
 mul-result c = search needs
@@ -38,10 +38,10 @@ edge32-spec =
     (tie.spec
     returns
     at16-requires
-    word-requires
+    u32-from-u16-requires
     add-at16
     at16-requires-2
-    word-requires-2
+    u32-from-u16-requires-2
     mul-result
     add-result
     returns-2)

@@ -13,8 +13,8 @@ returns : tie.Need-returns
 unfolding request-count
 returns c = sym (last-none (c .before .before .before .args .log .now) _ (c .before .at16 .ensures) (c .if1 .taken))
 
-size-requires : tie.Need-size-requires
-size-requires c κs = search needs
+size-from-u16-requires : tie.Need-size-from-u16-requires
+size-from-u16-requires c κs = search needs
 
 mul-at32 : tie.Need-mul-at32
 mul-at32 c = search needs
@@ -29,9 +29,9 @@ returns-2 : tie.Need-returns-2
 unfolding request-count
 returns-2 c =
     let log = c .before .before .before .before .before .args .log .now in
-    rw (c .at32 .ensures, c .before .size .ensures .0) (sym (last-read log _ (c .before .before .before .at16 .ensures) (c .before .before .if1 .left)))
+    rw (c .at32 .ensures, c .before .size-from-u16 .ensures .0) (sym (last-read log _ (c .before .before .before .at16 .ensures) (c .before .before .if1 .left)))
 
 pub last-second-spec : {M : Type 1} → statement M
 last-second-spec =
     tie.close
-    (tie.spec at16-requires returns size-requires mul-at32 add-at32 at32-requires returns-2)
+    (tie.spec at16-requires returns size-from-u16-requires mul-at32 add-at32 at32-requires returns-2)

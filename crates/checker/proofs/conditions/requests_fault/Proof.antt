@@ -31,8 +31,8 @@ loop-holds c = (search needs, refl)
 served-requires : tie.Need-served-requires Inv-loop μ-loop
 served-requires c κs = search needs
 
-size-requires : tie.Need-size-requires Inv-loop μ-loop
-size-requires c κs = search needs
+size-from-u16-requires : tie.Need-size-from-u16-requires Inv-loop μ-loop
+size-from-u16-requires c κs = search needs
 
 place-requires : tie.Need-place-requires Inv-loop μ-loop
 place-requires c κs = search needs
@@ -43,7 +43,7 @@ returns c =
     let a = c .before .before .before .before .before .before .before .before .before .before .args in
     let l = c .before .before .before .before .before .before .loop in
     let f = serve-test (a .log .now) (a .ns .now) in
-    rw (c .place .ensures, c .before .size .ensures .0)
+    rw (c .place .ensures, c .before .size-from-u16 .ensures .0)
     (sym (each-refused f (l .i) (request-count (a .log .now)) _ (search needs) (l .inv .1) (rw (not-true (c .before .before .before .served .result) (c .before .before .if1 .taken)) at (serve-found (a .log .now) (a .ns .now) (l .i) _ (c .before .before .before .served .ensures)))))
 
 add-i : tie.Need-add-i Inv-loop μ-loop
@@ -75,7 +75,7 @@ requests-fault-spec =
     at16-requires
     loop-holds
     served-requires
-    size-requires
+    size-from-u16-requires
     place-requires
     returns
     add-i

@@ -18,8 +18,8 @@ returns c =
 at-requires : tie.Need-at-requires
 at-requires c κs = search needs
 
-word8-requires : tie.Need-word8-requires
-word8-requires c κs = search needs
+u32-from-u8-requires : tie.Need-u32-from-u8-requires
+u32-from-u8-requires c κs = search needs
 
 at16-requires : tie.Need-at16-requires
 at16-requires c κs = search needs
@@ -40,7 +40,7 @@ returns-2 c =
     rw (
       schedule-parts (a .log .now) (a .ns .now),
       eq-eqb _ _ (c .before .before .before .before .before .before .before .before .if1 .left),
-      row-part-read (a .log .now) (a .ns .now) _ _ _ _ (c .before .before .before .before .before .before .word8 .ensures ∙ c .before .before .before .before .before .before .before .at .ensures) (c .before .before .before .before .before .at16 .ensures) (c .before .before .before .before .last-second .ensures) (c .before .before .before .rows-fault .ensures),
+      row-part-read (a .log .now) (a .ns .now) _ _ _ _ (c .before .before .before .before .before .before .u32-from-u8 .ensures .0 ∙ c .before .before .before .before .before .before .before .at .ensures) (c .before .before .before .before .before .at16 .ensures) (c .before .before .before .before .last-second .ensures) (c .before .before .before .rows-fault .ensures),
       c .before .v .given .1,
     )
 
@@ -50,14 +50,14 @@ enum-told c = search needs
 at-requires-2 : tie.Need-at-requires-2
 at-requires-2 c κs = search needs
 
-word8-requires-2 : tie.Need-word8-requires-2
-word8-requires-2 c κs = search needs
+u32-from-u8-requires-2 : tie.Need-u32-from-u8-requires-2
+u32-from-u8-requires-2 c κs = search needs
 
 copies-fault-requires : tie.Need-copies-fault-requires
 unfolding server-count request-count
 copies-fault-requires c κs =
     let s = c .before .before .before .before .before .before .before .before .before .before .before .before in
-    let count = c .before .before .before .before .before .before .before .word8 .ensures ∙ c .before .before .before .before .before .before .before .before .at .ensures in
+    let count = c .before .before .before .before .before .before .before .u32-from-u8 .ensures .0 ∙ c .before .before .before .before .before .before .before .before .at .ensures in
     in-order (s .args .log .now) (s .args .ns .now) (s .pre)
     (row-part-read (s .args .log .now) (s .args .ns .now) _ _ _ _ count (c .before .before .before .before .before .before .at16 .ensures) (c .before .before .before .before .before .last-second .ensures) (c .before .before .before .before .rows-fault .ensures) ∙ c .before .before .enum-told .given .1)
 
@@ -68,13 +68,13 @@ returns-3 : tie.Need-returns-3
 unfolding first server-count request-count home-of
 returns-3 c =
     let a = c .before .before .before .before .before .before .before .before .before .before .before .before .before .before .before .before .args in
-    let count = c .before .before .before .before .before .before .before .before .before .before .before .word8 .ensures ∙ c .before .before .before .before .before .before .before .before .before .before .before .before .at .ensures in
+    let count = c .before .before .before .before .before .before .before .before .before .before .before .u32-from-u8 .ensures .0 ∙ c .before .before .before .before .before .before .before .before .before .before .before .before .at .ensures in
     rw (
       schedule-parts (a .log .now) (a .ns .now),
       eq-eqb _ _ (c .before .before .before .before .before .before .before .before .before .before .before .before .before .if1 .left),
       row-part-read (a .log .now) (a .ns .now) _ _ _ _ count (c .before .before .before .before .before .before .before .before .before .before .at16 .ensures) (c .before .before .before .before .before .before .before .before .before .last-second .ensures) (c .before .before .before .before .before .before .before .before .rows-fault .ensures),
       c .before .before .before .before .before .before .enum-told .given .1,
-      copy-part-read (a .log .now) (a .ns .now) _ _ _ count (c .before .before .before .before .word82 .ensures ∙ c .before .before .before .before .before .at2 .ensures) (c .before .before .before .copies-fault .ensures),
+      copy-part-read (a .log .now) (a .ns .now) _ _ _ count (c .before .before .before .before .u32-from-u82 .ensures .0 ∙ c .before .before .before .before .before .at2 .ensures) (c .before .before .before .copies-fault .ensures),
       c .before .v2 .given .1,
     )
 
@@ -85,7 +85,7 @@ requests-fault-requires : tie.Need-requests-fault-requires
 unfolding server-count request-count
 requests-fault-requires c κs =
     let s = c .before .before .before .before .before .before .before .before .before .before .before .before .before .before .before in
-    let count = c .before .before .before .before .before .before .before .before .before .before .word8 .ensures ∙ c .before .before .before .before .before .before .before .before .before .before .before .at .ensures in
+    let count = c .before .before .before .before .before .before .before .before .before .before .u32-from-u8 .ensures .0 ∙ c .before .before .before .before .before .before .before .before .before .before .before .at .ensures in
     in-order (s .args .log .now) (s .args .ns .now) (s .pre)
     (row-part-read (s .args .log .now) (s .args .ns .now) _ _ _ _ count (c .before .before .before .before .before .before .before .before .before .at16 .ensures) (c .before .before .before .before .before .before .before .before .last-second .ensures) (c .before .before .before .before .before .before .before .rows-fault .ensures) ∙ c .before .before .before .before .before .enum-told .given .1)
 
@@ -93,13 +93,13 @@ returns-4 : tie.Need-returns-4
 unfolding first server-count request-count home-of
 returns-4 c =
     let a = c .before .before .before .before .before .before .before .before .before .before .before .before .before .before .before .before .args in
-    let count = c .before .before .before .before .before .before .before .before .before .before .before .word8 .ensures ∙ c .before .before .before .before .before .before .before .before .before .before .before .before .at .ensures in
+    let count = c .before .before .before .before .before .before .before .before .before .before .before .u32-from-u8 .ensures .0 ∙ c .before .before .before .before .before .before .before .before .before .before .before .before .at .ensures in
     rw (
       schedule-parts (a .log .now) (a .ns .now),
       eq-eqb _ _ (c .before .before .before .before .before .before .before .before .before .before .before .before .before .if1 .left),
       row-part-read (a .log .now) (a .ns .now) _ _ _ _ count (c .before .before .before .before .before .before .before .before .before .before .at16 .ensures) (c .before .before .before .before .before .before .before .before .before .last-second .ensures) (c .before .before .before .before .before .before .before .before .rows-fault .ensures),
       c .before .before .before .before .before .before .enum-told .given .1,
-      copy-part-read (a .log .now) (a .ns .now) _ _ _ count (c .before .before .before .before .word82 .ensures ∙ c .before .before .before .before .before .at2 .ensures) (c .before .before .before .copies-fault .ensures),
+      copy-part-read (a .log .now) (a .ns .now) _ _ _ count (c .before .before .before .before .u32-from-u82 .ensures .0 ∙ c .before .before .before .before .before .at2 .ensures) (c .before .before .before .copies-fault .ensures),
       c .before .enum-told2 .given .1,
     )
     (c .requests-fault .ensures)
@@ -110,7 +110,7 @@ schedule-fault-spec =
     (tie.spec
     returns
     at-requires
-    word8-requires
+    u32-from-u8-requires
     at16-requires
     last-second-requires
     rows-fault-requires
@@ -118,7 +118,7 @@ schedule-fault-spec =
     returns-2
     enum-told
     at-requires-2
-    word8-requires-2
+    u32-from-u8-requires-2
     copies-fault-requires
     enum-known-v-2
     returns-3

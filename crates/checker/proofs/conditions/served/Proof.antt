@@ -5,8 +5,8 @@ use Rattle.checker.specs.Quick.{served}
 use Rattle.checker.proofs.conditions.served.Statement.{statement}
 use Rattle.checker.proofs.conditions.served.Tie as tie
 
-size-requires : tie.Need-size-requires
-size-requires c κs = search needs
+size-from-u16-requires : tie.Need-size-from-u16-requires
+size-from-u16-requires c κs = search needs
 
 mul-k : tie.Need-mul-k
 mul-k c = search needs
@@ -26,39 +26,39 @@ at16-requires c κs = search needs
 at-requires : tie.Need-at-requires
 at-requires c κs = search needs
 
-word8-requires : tie.Need-word8-requires
-word8-requires c κs = search needs
+u32-from-u8-requires : tie.Need-u32-from-u8-requires
+u32-from-u8-requires c κs = search needs
 
 at-requires-2 : tie.Need-at-requires-2
 at-requires-2 c κs = search needs
 
-word8-requires-2 : tie.Need-word8-requires-2
-word8-requires-2 c κs = search needs
+u32-from-u8-requires-2 : tie.Need-u32-from-u8-requires-2
+u32-from-u8-requires-2 c κs = search needs
 
-word16-requires : tie.Need-word16-requires
-word16-requires c κs = search needs
+u32-from-u16-requires : tie.Need-u32-from-u16-requires
+u32-from-u16-requires c κs = search needs
 
 stands-requires : tie.Need-stands-requires
 stands-requires c κs = search needs
 
 returns : tie.Need-returns
 unfolding served server-count home-of
-returns c = rw (c .stands .ensures, c .before .word16 .ensures, c .before .before .word82 .ensures, c .before .before .before .at2 .ensures, c .before .before .before .before .word8 .ensures, c .before .before .before .before .before .at .ensures, c .before .before .before .before .before .before .before .at16 .ensures, c .before .before .before .before .before .before .before .before .at32 .ensures, c .before .before .before .before .before .before .before .before .before .size .ensures .0)
+returns c = rw (c .stands .ensures, c .before .u32-from-u16 .ensures .0, c .before .before .u32-from-u82 .ensures .0, c .before .before .before .at2 .ensures, c .before .before .before .before .u32-from-u8 .ensures .0, c .before .before .before .before .before .at .ensures, c .before .before .before .before .before .before .before .at16 .ensures, c .before .before .before .before .before .before .before .before .at32 .ensures, c .before .before .before .before .before .before .before .before .before .size-from-u16 .ensures .0)
 
 pub served-spec : {M : Type 1} → statement M
 served-spec =
     tie.close
     (tie.spec
-    size-requires
+    size-from-u16-requires
     mul-k
     add-at32
     at32-requires
     add-at16
     at16-requires
     at-requires
-    word8-requires
+    u32-from-u8-requires
     at-requires-2
-    word8-requires-2
-    word16-requires
+    u32-from-u8-requires-2
+    u32-from-u16-requires
     stands-requires
     returns)

@@ -9,14 +9,14 @@ use Rattle.checker.proofs.hints.after_holds.Tie as tie
 slot-requires : tie.Need-slot-requires
 slot-requires c κs = search needs
 
-wide-requires : tie.Need-wide-requires
-wide-requires c κs = search needs
+u64-from-u32-requires : tie.Need-u64-from-u32-requires
+u64-from-u32-requires c κs = search needs
 
 mul-found : tie.Need-mul-found
 mul-found c = search needs
 
-wide-requires-2 : tie.Need-wide-requires-2
-wide-requires-2 c κs = search needs
+u64-from-u32-requires-2 : tie.Need-u64-from-u32-requires-2
+u64-from-u32-requires-2 c κs = search needs
 
 add-found : tie.Need-add-found
 add-found c = search needs
@@ -33,9 +33,9 @@ after-holds-spec =
     tie.close
     (tie.spec
     slot-requires
-    wide-requires
+    u64-from-u32-requires
     mul-found
-    wide-requires-2
+    u64-from-u32-requires-2
     add-found
     found-requires
     returns)

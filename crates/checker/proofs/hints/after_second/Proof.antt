@@ -6,8 +6,8 @@ use Rattle.checker.specs.Search.{second-key, position}
 use Rattle.checker.proofs.hints.after_second.Statement.{statement}
 use Rattle.checker.proofs.hints.after_second.Tie as tie
 
-wide-requires : tie.Need-wide-requires
-wide-requires c κs = search needs
+u64-from-u32-requires : tie.Need-u64-from-u32-requires
+u64-from-u32-requires c κs = search needs
 
 add-found : tie.Need-add-found
 add-found c = search needs
@@ -27,4 +27,4 @@ returns c = c .found .ensures ∙ ap (position (c .before .before .before .befor
 
 pub after-second-spec : {M : Type 1} → statement M
 after-second-spec =
-    tie.close (tie.spec wide-requires add-found mul-found add-found-2 found-requires returns)
+    tie.close (tie.spec u64-from-u32-requires add-found mul-found add-found-2 found-requires returns)

@@ -6,8 +6,8 @@ use Rattle.checker.specs.Search.{second-key, position}
 use Rattle.checker.proofs.hints.from_second.Statement.{statement}
 use Rattle.checker.proofs.hints.from_second.Tie as tie
 
-wide-requires : tie.Need-wide-requires
-wide-requires c κs = search needs
+u64-from-u32-requires : tie.Need-u64-from-u32-requires
+u64-from-u32-requires c κs = search needs
 
 mul-found : tie.Need-mul-found
 mul-found c = search needs
@@ -23,4 +23,4 @@ unfolding second-key
 returns c = c .found .ensures ∙ ap (position (c .before .before .before .before .args .ns .now)) (omega arith)
 
 pub from-second-spec : {M : Type 1} → statement M
-from-second-spec = tie.close (tie.spec wide-requires mul-found add-found found-requires returns)
+from-second-spec = tie.close (tie.spec u64-from-u32-requires mul-found add-found found-requires returns)

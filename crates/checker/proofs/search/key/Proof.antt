@@ -7,14 +7,14 @@ use Rattle.checker.specs.Search.{key, hold-key, second-key}
 use Rattle.checker.proofs.search.key.Statement.{statement}
 use Rattle.checker.proofs.search.key.Tie as tie
 
-wide-requires : tie.Need-wide-requires
-wide-requires c κs = search needs
+u64-from-u32-requires : tie.Need-u64-from-u32-requires
+u64-from-u32-requires c κs = search needs
 
 mul-result : tie.Need-mul-result
 mul-result c = search needs
 
-wide-requires-2 : tie.Need-wide-requires-2
-wide-requires-2 c κs = search needs
+u64-from-u32-requires-2 : tie.Need-u64-from-u32-requires-2
+u64-from-u32-requires-2 c κs = search needs
 
 add-result : tie.Need-add-result
 add-result c = search needs
@@ -23,8 +23,8 @@ returns : tie.Need-returns
 unfolding row-of key hold-key
 returns c = rw (eq-eqb _ _ (c .before .before .if1 .taken)) (omega arith)
 
-wide-requires-3 : tie.Need-wide-requires-3
-wide-requires-3 c κs = search needs
+u64-from-u32-requires-3 : tie.Need-u64-from-u32-requires-3
+u64-from-u32-requires-3 c κs = search needs
 
 mul-result-2 : tie.Need-mul-result-2
 mul-result-2 c = search needs
@@ -32,8 +32,8 @@ mul-result-2 c = search needs
 add-result-2 : tie.Need-add-result-2
 add-result-2 c = search needs
 
-wide-requires-4 : tie.Need-wide-requires-4
-wide-requires-4 c κs = search needs
+u64-from-u32-requires-4 : tie.Need-u64-from-u32-requires-4
+u64-from-u32-requires-4 c κs = search needs
 
 mul-result-3 : tie.Need-mul-result-3
 mul-result-3 c = search needs
@@ -41,8 +41,8 @@ mul-result-3 c = search needs
 add-result-3 : tie.Need-add-result-3
 add-result-3 c = search needs
 
-wide-requires-5 : tie.Need-wide-requires-5
-wide-requires-5 c κs = search needs
+u64-from-u32-requires-5 : tie.Need-u64-from-u32-requires-5
+u64-from-u32-requires-5 c κs = search needs
 
 add-result-4 : tie.Need-add-result-4
 add-result-4 c = search needs
@@ -55,17 +55,17 @@ pub key-spec : {M : Type 1} → statement M
 key-spec =
     tie.close
     (tie.spec
-    wide-requires
+    u64-from-u32-requires
     mul-result
-    wide-requires-2
+    u64-from-u32-requires-2
     add-result
     returns
-    wide-requires-3
+    u64-from-u32-requires-3
     mul-result-2
     add-result-2
-    wide-requires-4
+    u64-from-u32-requires-4
     mul-result-3
     add-result-3
-    wide-requires-5
+    u64-from-u32-requires-5
     add-result-4
     returns-2)

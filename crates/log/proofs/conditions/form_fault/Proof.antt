@@ -1,6 +1,7 @@
 -- `log::conditions::form_fault` meets its contract. Assumes nothing.
 use borrow.Author.Needs.{needs}
-use Rattle.base.specs.RefusalLaws.{from, from-first, from-append}
+use Rattle.base.specs.Refusals.{from}
+use Rattle.base.specs.RefusalLaws.{from-first, from-append}
 use Rattle.log.specs.Fields.{version, class-of, server-count, home-of, request-count}
 use Rattle.log.proofs.conditions.form_fault.Statement.{statement}
 use Rattle.log.proofs.conditions.form_fault.Tie as tie

@@ -27,8 +27,8 @@ returns-2 c =
 at32-requires-3 : tie.Need-at32-requires-3
 at32-requires-3 c κs = search needs
 
-word-requires : tie.Need-word-requires
-word-requires c κs = search needs
+u32-from-u16-requires : tie.Need-u32-from-u16-requires
+u32-from-u16-requires c κs = search needs
 
 mul-result : tie.Need-mul-result
 mul-result c = search needs
@@ -46,7 +46,7 @@ returns-3 c =
       ← c .before .before .before .at322 .ensures,
       there,
       c .before .at323 .ensures,
-      c .word .ensures .0,
+      c .u32-from-u16 .ensures .0,
     )
 
 pub misplaced-spec : {M : Type 1} → statement M
@@ -58,7 +58,7 @@ misplaced-spec =
     at32-requires-2
     returns-2
     at32-requires-3
-    word-requires
+    u32-from-u16-requires
     mul-result
     add-result
     returns-3)

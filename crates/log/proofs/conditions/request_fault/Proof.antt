@@ -1,11 +1,12 @@
 -- `log::conditions::request_fault` meets its contract. Assumes nothing.
 use borrow.Author.Needs.{needs}
-use Rattle.base.specs.RefusalLaws.{from, from-first}
+use Rattle.base.specs.Refusals.{from}
+use Rattle.base.specs.RefusalLaws.{from-first}
 use Rattle.log.proofs.conditions.request_fault.Statement.{statement}
 use Rattle.log.proofs.conditions.request_fault.Tie as tie
 
-half-requires : tie.Need-half-requires
-half-requires c κs = search needs
+u16-from-u8-requires : tie.Need-u16-from-u8-requires
+u16-from-u8-requires c κs = search needs
 
 or-else-requires : tie.Need-or-else-requires
 or-else-requires c κs = search needs
@@ -28,14 +29,14 @@ returns c =
       c .before .or-else2 .ensures,
       c .before .before .second-outside .ensures,
       c .before .before .before .or-else .ensures,
-      c .before .before .before .before .half .ensures,
+      c .before .before .before .before .u16-from-u8 .ensures .0,
     ))
 
 pub request-fault-spec : {M : Type 1} → statement M
 request-fault-spec =
     tie.close
     (tie.spec
-    half-requires
+    u16-from-u8-requires
     or-else-requires
     second-outside-requires
     or-else-requires-2

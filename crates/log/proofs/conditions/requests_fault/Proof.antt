@@ -31,8 +31,8 @@ loop-holds : tie.Need-loop-holds Inv-loop μ-loop
 unfolding first each before
 loop-holds c = (search needs, refl, refl)
 
-size-requires : tie.Need-size-requires Inv-loop μ-loop
-size-requires c κs = search needs
+size-from-u16-requires : tie.Need-size-from-u16-requires Inv-loop μ-loop
+size-from-u16-requires c κs = search needs
 
 mul-at32 : tie.Need-mul-at32 Inv-loop μ-loop
 mul-at32 c = search needs
@@ -67,7 +67,7 @@ returns c =
     let p = c .before .before .before in
     let l = p .before .before .before .before .before .before .loop in
     let log = p .before .before .before .before .before .before .before .before .before .before .args .log .now in
-    let k : p .before .before .before .before .size .result ≡ l .i = p .before .before .before .before .size .ensures .0 in
+    let k : p .before .before .before .before .size-from-u16 .result ≡ l .i = p .before .before .before .before .size-from-u16 .ensures .0 in
     let second : p .before .before .before .at32 .result ≡ le32 log (40 + 6 * l .i) = rw k at (p .before .before .before .at32 .ensures) in
     let server : p .before .before .at162 .result ≡ le16 log (44 + 6 * l .i) = rw k at (p .before .before .at162 .ensures) in
     let place : p .before .place .result ≡ suc (l .i) = rw k at (p .before .place .ensures) in
@@ -89,7 +89,7 @@ loop-again c =
     let p = c .before .before in
     let l = p .before .before .before .before .before .before .loop in
     let log = p .before .before .before .before .before .before .before .before .before .before .args .log .now in
-    let k : p .before .before .before .before .size .result ≡ l .i = p .before .before .before .before .size .ensures .0 in
+    let k : p .before .before .before .before .size-from-u16 .result ≡ l .i = p .before .before .before .before .size-from-u16 .ensures .0 in
     let second : p .before .before .before .at32 .result ≡ le32 log (40 + 6 * l .i) = rw k at (p .before .before .before .at32 .ensures) in
     let server : p .before .before .at162 .result ≡ le16 log (44 + 6 * l .i) = rw k at (p .before .before .at162 .ensures) in
     let place : p .before .place .result ≡ suc (l .i) = rw k at (p .before .place .ensures) in (
@@ -118,7 +118,7 @@ requests-fault-spec =
     at-requires
     at16-requires
     loop-holds
-    size-requires
+    size-from-u16-requires
     mul-at32
     add-at32
     at32-requires

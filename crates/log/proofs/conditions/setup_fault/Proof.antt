@@ -1,6 +1,6 @@
 -- `log::conditions::setup_fault` meets its contract. Assumes nothing.
 use borrow.Author.Needs.{needs}
-use Rattle.base.specs.RefusalLaws.{from}
+use Rattle.base.specs.Refusals.{from}
 use Rattle.log.specs.Conditions.{setup-conditions}
 use Rattle.log.proofs.conditions.setup_fault.Statement.{statement}
 use Rattle.log.proofs.conditions.setup_fault.Tie as tie

@@ -1,29 +1,24 @@
 -- `log::reader::put_seconds` meets its contract. Assumes nothing.
 use borrow.Author.Needs.{needs}
-use mathlib.Core.Path.{_≡_, refl}
-use mathlib.Core.List.{_++_}
 use Prim.Native.Nat.{_+_, _*_, _-_, _≤_}
 use native.Mathlib.Omega.{arith}
-use native.Mathlib.Numerals.{add-one}
-use lib.ListN.{length, drop, length-set}
 use Rattle.base.specs.Bytes.{le32}
-use Rattle.base.specs.Lists.{build}
-use Rattle.base.specs.LentLaws.{fill-next}
+use Rattle.base.specs.LentLaws.{Filling, filling-begins, filling-next}
+use mathlib.Core.Path.{_≡_}
 use Rattle.log.proofs.reader.put_seconds.Statement.{statement}
 use Rattle.log.proofs.reader.put_seconds.Tie as tie
 
 abbrev Inv-loop : tie.InvT-loop
-Inv-loop log n out₀ i₀ out i = (i ≤ n) × (length out ≡ length out₀) × (out ≡ build i (λ i. le32 log (40 + 6 * i)) ++ drop i out₀)
+Inv-loop log n out₀ i₀ out i = (i ≤ n) × Filling (λ k. le32 log (40 + 6 * k)) out₀ out i
 
 abbrev μ-loop : tie.MeasureT-loop
 μ-loop log n out₀ i₀ out i = n - i
 
 loop-holds : tie.Need-loop-holds Inv-loop μ-loop
-unfolding build
-loop-holds c = (search needs, refl, refl)
+loop-holds c = (search needs, filling-begins _ _)
 
-size-requires : tie.Need-size-requires Inv-loop μ-loop
-size-requires c κs = search needs
+size-from-u16-requires : tie.Need-size-from-u16-requires Inv-loop μ-loop
+size-from-u16-requires c κs = search needs
 
 mul-at32 : tie.Need-mul-at32 Inv-loop μ-loop
 mul-at32 c = search needs
@@ -49,11 +44,7 @@ loop-less c = search needs
 loop-again : tie.Need-loop-again Inv-loop μ-loop
 loop-again c =
     let l = c .before .before .before .loop in
-    let a = c .before .before .before .before .before .before .args in (
-      search needs,
-      simp length-set (l .inv .1),
-      rw (c .at32 .ensures, c .before .size .ensures .0, l .inv .2, add-one (l .i)) (fill-next (λ i. le32 (a .log .now) (40 + 6 * i)) (l .i) (a .out .now) (search needs)),
-    )
+    (search needs, filling-next _ _ _ (l .i) _ _ (l .inv .1) (search needs) (c .before .size-from-u16 .ensures .0) (c .at32 .ensures))
 
 same-length : tie.Need-same-length Inv-loop μ-loop
 same-length c = search needs
@@ -62,7 +53,7 @@ returns : tie.Need-returns Inv-loop μ-loop
 returns c =
     let l = c .before .loop in
     let e : l .i ≡ c .before .before .before .before .args .n = omega arith in
-    rw e at (l .inv .2)
+    rw e at (l .inv .1 .front)
 
 pub put-seconds-spec : {M : Type 1} → statement M
 put-seconds-spec =
@@ -71,7 +62,7 @@ put-seconds-spec =
     Inv-loop
     μ-loop
     loop-holds
-    size-requires
+    size-from-u16-requires
     mul-at32
     add-at32
     at32-requires

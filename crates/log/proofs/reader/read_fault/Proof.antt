@@ -1,6 +1,7 @@
 -- `log::reader::read_fault` meets its contract. Assumes nothing.
 use borrow.Author.Needs.{needs}
-use Rattle.base.specs.RefusalLaws.{from, from-first, from-append}
+use Rattle.base.specs.Refusals.{from}
+use Rattle.base.specs.RefusalLaws.{from-first, from-append}
 use Rattle.log.specs.Conditions.{verdict-of}
 use Rattle.log.specs.Answers.{read-verdict}
 use Rattle.log.specs.Fields.{request-count}
@@ -13,20 +14,20 @@ at16-requires c κs = search needs
 verdict-requires : tie.Need-verdict-requires
 verdict-requires c κs = search needs
 
-size-requires : tie.Need-size-requires
-size-requires c κs = search needs
+size-from-u16-requires : tie.Need-size-from-u16-requires
+size-from-u16-requires c κs = search needs
 
-long-requires : tie.Need-long-requires
-long-requires c κs = search needs
+u64-from-u16-requires : tie.Need-u64-from-u16-requires
+u64-from-u16-requires c κs = search needs
 
 or-else-requires : tie.Need-or-else-requires
 or-else-requires c κs = search needs
 
-size-requires-2 : tie.Need-size-requires-2
-size-requires-2 c κs = search needs
+size-from-u16-requires-2 : tie.Need-size-from-u16-requires-2
+size-from-u16-requires-2 c κs = search needs
 
-long-requires-2 : tie.Need-long-requires-2
-long-requires-2 c κs = search needs
+u64-from-u16-requires-2 : tie.Need-u64-from-u16-requires-2
+u64-from-u16-requires-2 c κs = search needs
 
 or-else-requires-2 : tie.Need-or-else-requires-2
 or-else-requires-2 c κs = search needs
@@ -37,11 +38,11 @@ returns c =
     rw (← (from-first _), from-append, from-first)
     (simp (
       c .or-else2 .ensures,
-      c .before .long2 .ensures,
-      c .before .before .size2 .ensures .0,
+      c .before .u64-from-u162 .ensures .0,
+      c .before .before .size-from-u162 .ensures .0,
       c .before .before .before .or-else .ensures,
-      c .before .before .before .before .long .ensures,
-      c .before .before .before .before .before .size .ensures .0,
+      c .before .before .before .before .u64-from-u16 .ensures .0,
+      c .before .before .before .before .before .size-from-u16 .ensures .0,
       c .before .before .before .before .before .before .verdict .ensures,
       c .before .before .before .before .before .before .before .at16 .ensures,
     ))
@@ -52,10 +53,10 @@ read-fault-spec =
     (tie.spec
     at16-requires
     verdict-requires
-    size-requires
-    long-requires
+    size-from-u16-requires
+    u64-from-u16-requires
     or-else-requires
-    size-requires-2
-    long-requires-2
+    size-from-u16-requires-2
+    u64-from-u16-requires-2
     or-else-requires-2
     returns)

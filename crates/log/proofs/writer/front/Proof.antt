@@ -5,14 +5,14 @@ use Rattle.log.specs.Contents.{head}
 use Rattle.log.proofs.writer.front.Statement.{statement}
 use Rattle.log.proofs.writer.front.Tie as tie
 
-half-requires : tie.Need-half-requires
-half-requires c κs = search needs
+u16-from-size-requires : tie.Need-u16-from-size-requires
+u16-from-size-requires c κs = search needs
 
 le-bytes16-requires : tie.Need-le-bytes16-requires
 le-bytes16-requires c κs = search needs
 
-word-requires : tie.Need-word-requires
-word-requires c κs = search needs
+u32-from-size-requires : tie.Need-u32-from-size-requires
+u32-from-size-requires c κs = search needs
 
 mul-le-bytes32 : tie.Need-mul-le-bytes32
 mul-le-bytes32 c = search needs
@@ -43,15 +43,15 @@ array-read-t28 c = search needs
 
 returns : tie.Need-returns
 unfolding head length-for
-returns c = rw (c .le-bytes32 .ensures, c .before .word .ensures, c .before .before .le-bytes16 .ensures, c .before .before .before .half .ensures)
+returns c = rw (c .le-bytes32 .ensures, c .before .u32-from-size .ensures, c .before .before .le-bytes16 .ensures, c .before .before .before .u16-from-size .ensures)
 
 pub front-spec : {M : Type 1} → statement M
 front-spec =
     tie.close
     (tie.spec
-    half-requires
+    u16-from-size-requires
     le-bytes16-requires
-    word-requires
+    u32-from-size-requires
     mul-le-bytes32
     add-le-bytes32
     le-bytes32-requires

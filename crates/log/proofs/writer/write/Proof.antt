@@ -50,8 +50,8 @@ put-sum-requires c κs =
     let ok = write-room _ _ (sym (c .before .before .before .before .before .before .before .before .before .before .before .before .before .before .before .write-fault .ensures) ∙ c .before .before .before .before .before .before .before .before .before .before .before .before .before .enum-told .given .1) in
     omega (arith, c .before .before .before .clear8 .kept .0, c .before .before .before .before .before .before .before .put-requests .kept .1 .1 .0, c .before .before .before .before .before .before .before .before .before .before .before .put-head .kept .1 .1 .0)
 
-long-requires : tie.Need-long-requires
-long-requires c κs = search needs
+u64-from-size-requires : tie.Need-u64-from-size-requires
+u64-from-size-requires c κs = search needs
 
 same-length : tie.Need-same-length
 same-length c = search needs
@@ -65,7 +65,7 @@ returns-2 c =
     let n = length (a .seconds .now) in
     let id-length : length (a .header .id) ≡ 16 = let g = c .before .before .before .before .before .before .before .before .before .before .before .before .before .before .before .before .before .before .before .before .before .before .before .good in search needs in
     let ok = write-room _ _ (sym wf ∙ told) in
-    rw (← wf, told, c .long .ensures) (
+    rw (← wf, told, c .u64-from-size .ensures .0) (
       refl,
       c .before .before .before .put-sum .ensures
           ∙ all-written (head (a .header) n) (a .header .id) (requests-bytes (a .seconds .now) (a .servers .now) n) (a .log .now) n
@@ -87,6 +87,6 @@ write-spec =
     put-requests-requires
     clear8-requires
     put-sum-requires
-    long-requires
+    u64-from-size-requires
     same-length
     returns-2)

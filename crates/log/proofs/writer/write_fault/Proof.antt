@@ -27,8 +27,8 @@ mul-total c = search needs
 add-total : tie.Need-add-total
 add-total c = search needs
 
-long-requires : tie.Need-long-requires
-long-requires c κs = search needs
+u64-from-size-requires : tie.Need-u64-from-size-requires
+u64-from-size-requires c κs = search needs
 
 or-else-requires : tie.Need-or-else-requires
 or-else-requires c κs = search needs
@@ -37,7 +37,7 @@ returns-2 : tie.Need-returns-2
 unfolding write-verdict or-else length-for
 returns-2 c =
     rw (first-append, ← c .before .before .before .before .contents-fault .ensures, c .before .before .enum-told .given .1)
-    (c .or-else .ensures ∙ rw (c .before .long .ensures))
+    (c .or-else .ensures ∙ rw (c .before .u64-from-size .ensures .0))
 
 pub write-fault-spec : {M : Type 1} → statement M
 write-fault-spec =
@@ -49,6 +49,6 @@ write-fault-spec =
     enum-told
     mul-total
     add-total
-    long-requires
+    u64-from-size-requires
     or-else-requires
     returns-2)

@@ -1,6 +1,7 @@
 -- `online::conditions::close_fault` meets its contract. Assumes nothing.
 use borrow.Author.Needs.{needs}
-use Rattle.base.specs.RefusalLaws.{from, from-first}
+use Rattle.base.specs.Refusals.{from}
+use Rattle.base.specs.RefusalLaws.{from-first}
 use Rattle.online.specs.Conditions.{running-conditions, close-conditions}
 use Rattle.online.specs.Answers.{running-verdict, close-verdict}
 use Rattle.online.proofs.conditions.close_fault.Statement.{statement}

@@ -1,6 +1,7 @@
 -- `online::conditions::scan_fault` meets its contract. Assumes nothing.
 use borrow.Author.Needs.{needs}
-use Rattle.base.specs.RefusalLaws.{from, from-first}
+use Rattle.base.specs.Refusals.{from}
+use Rattle.base.specs.RefusalLaws.{from-first}
 use Rattle.online.specs.Conditions.{scan-conditions}
 use Rattle.online.specs.Answers.{scan-verdict}
 use Rattle.online.proofs.conditions.scan_fault.Statement.{statement}

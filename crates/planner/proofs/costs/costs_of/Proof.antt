@@ -15,19 +15,22 @@ use Rattle.planner.proofs.costs.costs_of.Statement.{statement}
 use Rattle.planner.proofs.costs.costs_of.Tie as tie
 use Rattle.planner.proofs.costs.costs_of.Reads as reads
 
-size-requires : tie.Need-size-requires
-size-requires c κs = search needs
+size-from-u16-requires : tie.Need-size-from-u16-requires
+size-from-u16-requires c κs = search needs
 
 add-needed : tie.Need-add-needed
 add-needed c = search needs
 
+u64-from-size-requires : tie.Need-u64-from-size-requires
+u64-from-size-requires c κs = search needs
+
 returns : tie.Need-returns
 unfolding costs-answer lent
 returns c =
-    let a = c .before .before .before .args in
-    let e = c .before .size .ensures .0 in
+    let a = c .before .before .before .before .args in
+    let e = c .before .before .size-from-u16 .ensures .0 in
     let v = no-room (a .setup .requests) (a .costs .now) (omega (arith, e)) in
-    (rw (v, e, add-one (a .setup .requests)), rw v)
+    (rw (v, c .u64-from-size .ensures .0, e, add-one (a .setup .requests)), rw v)
 
 slice-aggregate-fill : tie.Need-slice-aggregate-fill
 slice-aggregate-fill c = search needs
@@ -35,7 +38,7 @@ slice-aggregate-fill c = search needs
 fill-requires : tie.Need-fill-requires
 fill-requires c κs =
     let s = c .before .before .before .before .before in
-    (s .pre, (omega (arith, c .before .before .before .size .ensures .0), omega (arith, s .pre .fits .requests-most)))
+    (s .pre, (omega (arith, c .before .before .before .size-from-u16 .ensures .0), omega (arith, s .pre .fits .requests-most)))
 
 clear64-requires : tie.Need-clear64-requires
 clear64-requires c κs = search needs
@@ -52,7 +55,7 @@ returns-2 c =
     let s = c .before .before .before .before .before .before .before .before .before .before .before .before .before .before in
     let a = s .args in
     let n = a .setup .requests in
-    let size = c .before .before .before .before .before .before .before .before .before .before .before .before .size in
+    let size = c .before .before .before .before .before .before .before .before .before .before .before .before .size-from-u16 in
     let e : size .result + 1 ≡ suc n = ap (λ (k : ℕ). k + 1) (size .ensures .0) ∙ add-one n in
     let l : suc n ≤ length (a .costs .now) = omega (arith, e) in
     let v = room n (a .costs .now) l in (
@@ -67,8 +70,9 @@ pub costs-of-spec : {M : Type 1} → statement M
 costs-of-spec =
     tie.close
     (tie.spec
-    size-requires
+    size-from-u16-requires
     add-needed
+    u64-from-size-requires
     returns
     slice-aggregate-fill
     fill-requires

@@ -18,8 +18,8 @@ Inv-loop words letters n rows₀ k₀ end rows k =
 abbrev μ-loop : tie.MeasureT-loop
 μ-loop words letters n rows₀ k₀ end rows k = end - k
 
-size-requires : tie.Need-size-requires Inv-loop μ-loop
-size-requires c κs = search needs
+size-from-u16-requires : tie.Need-size-from-u16-requires Inv-loop μ-loop
+size-from-u16-requires c κs = search needs
 
 loop-holds : tie.Need-loop-holds Inv-loop μ-loop
 unfolding row-count sum
@@ -76,7 +76,7 @@ row-count-spec =
     (tie.spec
     Inv-loop
     μ-loop
-    size-requires
+    size-from-u16-requires
     loop-holds
     add-next
     word-requires

@@ -53,8 +53,8 @@ loop-again c =
       rw (x .ensures .1, l .inv .1, l .inv .3, add-one (l .i)) (links-next t (l .i) (a .previous .now) (omega arith) (s .pre .1 (l .i))),
     )
 
-size-requires : tie.Need-size-requires Inv-loop μ-loop
-size-requires c κs = search needs
+size-from-u16-requires : tie.Need-size-from-u16-requires Inv-loop μ-loop
+size-from-u16-requires c κs = search needs
 
 add-clear16 : tie.Need-add-clear16 Inv-loop μ-loop
 add-clear16 c = search needs
@@ -76,7 +76,7 @@ returns c =
     let room = s .pre .2 in
     c .before .before .clear16 .ensures
     ∙ ap₂ (λ (k : ℕ) (x : List ℕ). cleared k x)
-    (ap (λ (k : ℕ). k + 1) (c .before .before .before .size .ensures .0) ∙ add-one (a .n))
+    (ap (λ (k : ℕ). k + 1) (c .before .before .before .size-from-u16 .ensures .0) ∙ add-one (a .n))
     (l .inv .3 ∙ ap (λ (k : ℕ). links-front t k (a .previous .now)) e)
     ∙ lent-front (links (a .servers .now) (a .n)) (a .previous .now) (suc (a .n)) (build-length (suc (a .n)) _) (omega arith)
 
@@ -91,7 +91,7 @@ link-spec =
     add-i
     loop-less
     loop-again
-    size-requires
+    size-from-u16-requires
     add-clear16
     clear16-requires
     same-length

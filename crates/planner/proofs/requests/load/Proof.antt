@@ -25,8 +25,8 @@ enum-known-outcome-2 c = search needs
 element-write-seconds : tie.Need-element-write-seconds
 element-write-seconds c = search needs
 
-half-requires : tie.Need-half-requires
-half-requires c κs = search needs
+u16-from-u8-requires : tie.Need-u16-from-u8-requires
+u16-from-u8-requires c κs = search needs
 
 element-write-servers : tie.Need-element-write-servers
 element-write-servers c = search needs
@@ -40,7 +40,7 @@ link-requires c κs =
     let known = c .before .before .before .before .outcome2 .given in
     let d = decoded-requests (verdict-of log) log (r .read-requests .result) _ (r .read-requests .ensures .0) (known .1) in
     let long : length (a .servers .now) ≡ 2049 = search needs in
-    let now = home-loaded (verdict-of log) (a .servers .now) (servers-of log) _ (home-of log) _ (d .0) (r .read-requests .ensures .1 .1) (c .before .before .half .ensures ∙ ap (λ (h : Header). h .home) (d .2)) (omega arith) in
+    let now = home-loaded (verdict-of log) (a .servers .now) (servers-of log) _ (home-of log) _ (d .0) (r .read-requests .ensures .1 .1) (c .before .before .u16-from-u8 .ensures .0 ∙ ap (λ (h : Header). h .home) (d .2)) (omega arith) in
     (omega (arith, d .1, log-fits log (d .0) .requests-most), lent-small log (d .0) (a .servers .now) _ now, search needs)
 
 of-class-requires : tie.Need-of-class-requires
@@ -70,7 +70,7 @@ returns-2 c =
     let d = decoded-requests (verdict-of log) log (r .read-requests .result) _ (r .read-requests .ensures .0) (known .1) in
     let long : length (a .servers .now) ≡ 2049 = search needs in
     let long₂ : length (a .seconds .now) ≡ 2049 = search needs in
-    let now = home-loaded (verdict-of log) (a .servers .now) (servers-of log) _ (home-of log) _ (d .0) (r .read-requests .ensures .1 .1) (c .before .before .before .before .half .ensures ∙ ap (λ (h : Header). h .home) (d .2)) (omega arith) in (
+    let now = home-loaded (verdict-of log) (a .servers .now) (servers-of log) _ (home-of log) _ (d .0) (r .read-requests .ensures .1 .1) (c .before .before .before .before .u16-from-u8 .ensures .0 ∙ ap (λ (h : Header). h .home) (d .2)) (omega arith) in (
       rw (d .0, d .1, c .of-class .ensures, d .2),
       (
         home-loaded (verdict-of log) (a .seconds .now) (seconds-of log) _ 0 0 (d .0) (r .read-requests .ensures .1 .0) refl (omega arith),
@@ -86,7 +86,7 @@ load-spec =
     enum-known-outcome
     enum-known-outcome-2
     element-write-seconds
-    half-requires
+    u16-from-u8-requires
     element-write-servers
     link-requires
     of-class-requires

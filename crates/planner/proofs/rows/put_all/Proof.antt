@@ -7,11 +7,11 @@ use Rattle.planner.specs.RowSteps.{put-both}
 use Rattle.planner.proofs.rows.put_all.Statement.{statement}
 use Rattle.planner.proofs.rows.put_all.Tie as tie
 
-size-requires : tie.Need-size-requires
-size-requires c κs = search needs
+size-from-u16-requires : tie.Need-size-from-u16-requires
+size-from-u16-requires c κs = search needs
 
-half-requires : tie.Need-half-requires
-half-requires c κs = search needs
+u16-from-u8-requires : tie.Need-u16-from-u8-requires
+u16-from-u8-requires c κs = search needs
 
 put-holds-requires : tie.Need-put-holds-requires
 put-holds-requires c κs = search needs
@@ -27,8 +27,8 @@ returns c =
     let p = c .before .before in
     let h = p .before .before .before .before in
     let a = h .before .before .before .before .before .before .before .before .before .args in
-    let n = h .before .before .before .size .ensures .0 in
-    let k = h .before .before .half .ensures .0 in
+    let n = h .before .before .before .size-from-u16 .ensures .0 in
+    let k = h .before .before .u16-from-u8 .ensures .0 in
     let after : List ℕ = h .put-holds .last .1 .1 .1 .1 .0 in
     put-both (a .times .now) (a .servers .now) (a .words .now) (marking (a .letters .now)) (a .n) (a .count) (h .put-holds .result) (a .out .now) after (p .put-transfers .last .1 .1 .1 .1 .1 .1 .0)
     (rw (n, k) at (h .put-holds .ensures .0))
@@ -39,8 +39,8 @@ pub put-all-spec : {M : Type 1} → statement M
 put-all-spec =
     tie.close
     (tie.spec
-    size-requires
-    half-requires
+    size-from-u16-requires
+    u16-from-u8-requires
     put-holds-requires
     put-transfers-requires
     same-length

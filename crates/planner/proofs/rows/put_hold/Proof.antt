@@ -33,8 +33,8 @@ returns c =
 last-of-run-requires : tie.Need-last-of-run-requires
 last-of-run-requires c κs = search needs
 
-number-requires : tie.Need-number-requires
-number-requires c κs = search needs
+u32-from-u16-requires : tie.Need-u32-from-u16-requires
+u32-from-u16-requires c κs = search needs
 
 second-requires : tie.Need-second-requires
 second-requires c κs = search needs
@@ -62,7 +62,7 @@ returns-2 c =
     let h = put-single (a .at) (new-hold q f (a .n) (a .y) (a .k)) (hold (a .y) (q .time (a .k)) (q .time (run-end f (suc (a .k)) (a .n - suc (a .k))))) (a .out .now) (p .put-row .last .0)
     (hold-one q f (a .n) (a .y) (a .k) (rw (add-one (a .k)) at (sym (b .before .begins .ensures) ∙ not-false _ (b .if1 .left))))
     (p .put-row .ensures
-    ∙ rw (p .before .before .before .number .ensures, p .before .before .second .ensures, p .before .second2 .ensures, p .before .before .before .before .before .last-of-run .ensures, add-one (a .k))) in
+    ∙ rw (p .before .before .before .u32-from-u16 .ensures .0, p .before .before .second .ensures, p .before .second2 .ensures, p .before .before .before .before .before .last-of-run .ensures, add-one (a .k))) in
     (h .0, search needs, h .1)
 
 pub put-hold-spec : {M : Type 1} → statement M
@@ -73,7 +73,7 @@ put-hold-spec =
     begins-requires
     returns
     last-of-run-requires
-    number-requires
+    u32-from-u16-requires
     second-requires
     second-requires-2
     put-row-requires

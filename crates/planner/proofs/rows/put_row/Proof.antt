@@ -10,8 +10,8 @@ use Rattle.base.specs.Lists.{splice-over}
 use Rattle.planner.proofs.rows.put_row.Statement.{statement}
 use Rattle.planner.proofs.rows.put_row.Tie as tie
 
-index-requires : tie.Need-index-requires
-index-requires c κs = search needs
+size-from-u32-requires : tie.Need-size-from-u32-requires
+size-from-u32-requires c κs = search needs
 
 mul-at : tie.Need-mul-at
 mul-at c = search needs
@@ -63,13 +63,13 @@ same-length c = search needs
 returns-2 : tie.Need-returns-2
 returns-2 c =
     let a = c .before .before .before .args in
-    rw (c .before .index .ensures .0) (set-four (a .out .now) (4 * a .k) (a .kind) (a .a) (a .b) (a .c) (omega arith))
+    rw (c .before .size-from-u32 .ensures .0) (set-four (a .out .now) (4 * a .k) (a .kind) (a .a) (a .b) (a .c) (omega arith))
 
 pub put-row-spec : {M : Type 1} → statement M
 put-row-spec =
     tie.close
     (tie.spec
-    index-requires
+    size-from-u32-requires
     mul-at
     add-if1
     returns

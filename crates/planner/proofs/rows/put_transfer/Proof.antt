@@ -37,8 +37,8 @@ source-requires c κs = search needs
 server-requires : tie.Need-server-requires
 server-requires c κs = search needs
 
-number-requires : tie.Need-number-requires
-number-requires c κs = search needs
+u32-from-u16-requires : tie.Need-u32-from-u16-requires
+u32-from-u16-requires c κs = search needs
 
 second-requires : tie.Need-second-requires
 second-requires c κs = search needs
@@ -64,7 +64,7 @@ returns-2 c =
     let h = put-single (a .at) (new-transfer q m from (a .k)) (move (transfer (from (suc (a .k))) (q .server (suc (a .k))) (q .time (suc (a .k))))) (a .out .now) (p .put-row .last .0)
     (transfer-one q m from (a .k) (sym (b .before .kept .ensures) ∙ b .if1 .left))
     (p .put-row .ensures
-    ∙ rw (p .before .before .before .before .source .ensures, p .before .before .before .before .before .word .ensures, p .before .before .number .ensures, p .before .before .before .server .ensures, p .before .second .ensures, add-one (a .k))) in
+    ∙ rw (p .before .before .before .before .source .ensures, p .before .before .before .before .before .word .ensures, p .before .before .u32-from-u16 .ensures .0, p .before .before .before .server .ensures, p .before .second .ensures, add-one (a .k))) in
     (h .0, search needs, h .1)
 
 pub put-transfer-spec : {M : Type 1} → statement M
@@ -77,7 +77,7 @@ put-transfer-spec =
     word-requires
     source-requires
     server-requires
-    number-requires
+    u32-from-u16-requires
     second-requires
     put-row-requires
     add-result

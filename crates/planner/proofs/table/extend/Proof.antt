@@ -11,8 +11,8 @@ use Rattle.planner.specs.TermLaws.{terms-small, cost-terms}
 use Rattle.planner.proofs.table.extend.Statement.{statement}
 use Rattle.planner.proofs.table.extend.Tie as tie
 
-size-requires : tie.Need-size-requires
-size-requires c κs = search needs
+size-from-u16-requires : tie.Need-size-from-u16-requires
+size-from-u16-requires c κs = search needs
 
 terms-at-requires : tie.Need-terms-at-requires
 terms-at-requires c κs = search needs
@@ -22,8 +22,8 @@ next-keep-requires c κs =
     let s = c .before .before .before .before .before .before in
     (s .pre .0, (s .pre .1 .0, (s .pre .1 .1 .0, (c .before .before .terms-at .ensures, search needs, search needs))))
 
-wide-requires : tie.Need-wide-requires
-wide-requires c κs = search needs
+u64-from-u32-requires : tie.Need-u64-from-u32-requires
+u64-from-u32-requires c κs = search needs
 
 add-sent : tie.Need-add-sent
 add-sent c =
@@ -47,7 +47,7 @@ add-sent-2 c =
     let a = s .args in
     let q = asks (a .seconds .now) (a .servers .now) in
     let few = s .pre .0 .fits .requests-most in
-    rw (c .before .before .before .before .before .before .before .size .ensures .0)
+    rw (c .before .before .before .before .before .before .before .size-from-u16 .ensures .0)
     (omega (
       arith,
       terms-small (a .prices) q (a .i) (omega arith) _ (c .before .before .before .before .before .before .terms-at .ensures) (s .pre .0 .fits),
@@ -94,19 +94,19 @@ returns c =
     let few = s .pre .0 .fits .requests-most in
     let t = c .before .before .before .before .before .before .before in
     let d = c .before .before .before .before .next-keep in (
-      rw (c .cheaper .ensures, t .before .size .ensures .0, c .before .before .before .wide .ensures .0, add-one (a .i), d .ensures, t .terms-at .ensures)
+      rw (c .cheaper .ensures, t .before .size-from-u16 .ensures .0, c .before .before .before .u64-from-u32 .ensures .0, add-one (a .i), d .ensures, t .terms-at .ensures)
           (ap (set (a .costs .now) (suc (a .i))) (sym (cost-terms (a .prices) q (a .i) _ _ (omega arith)))),
-      rw (t .before .size .ensures .0, add-one (a .i), d .ensures),
+      rw (t .before .size-from-u16 .ensures .0, add-one (a .i), d .ensures),
     )
 
 pub extend-spec : {M : Type 1} → statement M
 extend-spec =
     tie.close
     (tie.spec
-    size-requires
+    size-from-u16-requires
     terms-at-requires
     next-keep-requires
-    wide-requires
+    u64-from-u32-requires
     add-sent
     mul-sent
     slice-read-sent

@@ -5,20 +5,20 @@ use native.Mathlib.Omega.{arith}
 use Rattle.planner.proofs.table.held.Statement.{statement}
 use Rattle.planner.proofs.table.held.Tie as tie
 
-wide-requires : tie.Need-wide-requires
-wide-requires c κs = search needs
+u64-from-u32-requires : tie.Need-u64-from-u32-requires
+u64-from-u32-requires c κs = search needs
 
-sub-wide : tie.Need-sub-wide
-sub-wide c = search needs
+sub-u64-from-u32 : tie.Need-sub-u64-from-u32
+sub-u64-from-u32 c = search needs
 
-wide-requires-2 : tie.Need-wide-requires-2
-wide-requires-2 c κs = search needs
+u64-from-u32-requires-2 : tie.Need-u64-from-u32-requires-2
+u64-from-u32-requires-2 c κs = search needs
 
 mul-result : tie.Need-mul-result
-mul-result c = omega (arith, mul-le-mul {n₁ = c .before .wide .result} {m₁ = c .wide2 .result} {n₂ = 4294967295} {m₂ = 4294967295} (omega arith) (omega arith))
+mul-result c = omega (arith, mul-le-mul {n₁ = c .before .u64-from-u32 .result} {m₁ = c .u64-from-u322 .result} {n₂ = 4294967295} {m₂ = 4294967295} (omega arith) (omega arith))
 
 returns : tie.Need-returns
-returns c = rw (c .wide2 .ensures .0, c .before .wide .ensures .0)
+returns c = rw (c .u64-from-u322 .ensures .0, c .before .u64-from-u32 .ensures .0)
 
 pub held-spec : {M : Type 1} → statement M
-held-spec = tie.close (tie.spec wide-requires sub-wide wide-requires-2 mul-result returns)
+held-spec = tie.close (tie.spec u64-from-u32-requires sub-u64-from-u32 u64-from-u32-requires-2 mul-result returns)

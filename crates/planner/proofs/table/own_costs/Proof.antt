@@ -20,8 +20,8 @@ abbrev μ-loop : tie.MeasureT-loop
 loop-holds : tie.Need-loop-holds Inv-loop μ-loop
 loop-holds c = (search needs, refl, λ k h. absurd (omega arith))
 
-size-requires : tie.Need-size-requires Inv-loop μ-loop
-size-requires c κs = search needs
+size-from-u16-requires : tie.Need-size-from-u16-requires Inv-loop μ-loop
+size-from-u16-requires c κs = search needs
 
 own-cost-requires : tie.Need-own-cost-requires Inv-loop μ-loop
 own-cost-requires c κs =
@@ -36,7 +36,7 @@ mul-owns : tie.Need-mul-owns Inv-loop μ-loop
 mul-owns c = search needs
 
 slice-write-owns : tie.Need-slice-write-owns Inv-loop μ-loop
-slice-write-owns c = omega (arith, c .before .size .ensures .0, c .before .before .before .loop .inv .1, c .before .before .before .before .before .pre .1)
+slice-write-owns c = omega (arith, c .before .size-from-u16 .ensures .0, c .before .before .before .loop .inv .1, c .before .before .before .before .before .pre .1)
 
 add-i : tie.Need-add-i Inv-loop μ-loop
 add-i c = search needs
@@ -51,7 +51,7 @@ loop-again c =
     let l = c .before .before .before .loop in (
       search needs,
       length-set (l .owns) _ _ ∙ l .inv .1,
-      rw (c .before .size .ensures .0, add-one (l .i))
+      rw (c .before .size-from-u16 .ensures .0, add-one (l .i))
           (owned-more (a .prices) (asks (a .seconds .now) (a .servers .now)) (l .i) (l .owns) _ (l .inv .2) (omega (arith, l .inv .1, s .pre .1)) (c .own-cost .ensures)),
     )
 
@@ -68,7 +68,7 @@ own-costs-spec =
     Inv-loop
     μ-loop
     loop-holds
-    size-requires
+    size-from-u16-requires
     own-cost-requires
     add-owns
     mul-owns

@@ -17,11 +17,11 @@ Inv-loop prices seconds servers previous owns costs keeps c i end k₀ v₀ k v 
 abbrev μ-loop : tie.MeasureT-loop
 μ-loop prices seconds servers previous owns costs keeps c i end k₀ v₀ k v = end - k
 
-size-requires : tie.Need-size-requires Inv-loop μ-loop
-size-requires c κs = search needs
+size-from-u16-requires : tie.Need-size-from-u16-requires Inv-loop μ-loop
+size-from-u16-requires c κs = search needs
 
-size-requires-2 : tie.Need-size-requires-2 Inv-loop μ-loop
-size-requires-2 c κs = search needs
+size-from-u16-requires-2 : tie.Need-size-from-u16-requires-2 Inv-loop μ-loop
+size-from-u16-requires-2 c κs = search needs
 
 mul-v : tie.Need-mul-v Inv-loop μ-loop
 mul-v c = search needs
@@ -32,7 +32,7 @@ shared-slice-read-v c = search needs
 loop-holds : tie.Need-loop-holds Inv-loop μ-loop
 loop-holds c =
     let a = c .before .before .before .before .before .args in
-    let e = c .before .size2 .ensures .0 in (
+    let e = c .before .size-from-u162 .ensures .0 in (
       omega (arith, e),
       omega (arith, e),
       rw e (sym (row-start (a .prices) (asks (a .seconds .now) (a .servers .now)) (at (a .costs .now)) (at (a .keeps .now)) (a .c))),
@@ -64,7 +64,7 @@ next-cost-requires c κs =
     let s = c .before .before .before .before .before .before .before .before .before .before in
     let a = s .args in
     let l = c .before .before .before .before .loop in
-    let e = c .before .before .before .before .before .before .before .size .ensures .0 in (
+    let e = c .before .before .before .before .before .before .before .size-from-u16 .ensures .0 in (
       owned-small (a .prices) (a .seconds .now) (a .servers .now) (a .previous .now) (a .owns .now) (a .i) (s .pre .0) (s .pre .1 .0) (l .k) (omega arith),
       rw (l .inv .2)
           (row-small (a .prices) (asks (a .seconds .now) (a .servers .now)) (a .i) (s .pre .0 .fits) (at (a .costs .now)) (at (a .keeps .now)) (a .c) (l .k) (s .pre .1 .1 .0) (l .inv .0) (l .inv .1)),
@@ -78,7 +78,7 @@ loop-again c =
     let s = c .before .before .before .before .before .before .before .before .before .before .before in
     let a = s .args in
     let l = c .before .before .before .before .before .loop in
-    let e = c .before .before .before .before .before .before .before .before .size .ensures .0 in (
+    let e = c .before .before .before .before .before .before .before .before .size-from-u16 .ensures .0 in (
       omega (arith, l .inv .0),
       omega arith,
       c .next-cost .ensures
@@ -89,7 +89,7 @@ returns : tie.Need-returns Inv-loop μ-loop
 returns c =
     let s = c .before .before .before .before .before .before .before in
     let l = c .before .loop in
-    let end = c .before .before .before .before .size .ensures .0 in
+    let end = c .before .before .before .before .size-from-u16 .ensures .0 in
     let e : l .k ≡ s .args .i = omega (arith, l .inv .1) in
     rw e at (l .inv .2)
 
@@ -99,8 +99,8 @@ row-spec =
     (tie.spec
     Inv-loop
     μ-loop
-    size-requires
-    size-requires-2
+    size-from-u16-requires
+    size-from-u16-requires-2
     mul-v
     shared-slice-read-v
     loop-holds

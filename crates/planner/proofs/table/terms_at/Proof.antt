@@ -6,8 +6,8 @@ use Rattle.planner.specs.ReadyLaws.{second-before, link-below, link-seco
 use Rattle.planner.proofs.table.terms_at.Statement.{statement}
 use Rattle.planner.proofs.table.terms_at.Tie as tie
 
-size-requires : tie.Need-size-requires
-size-requires c κs = search needs
+size-from-u16-requires : tie.Need-size-from-u16-requires
+size-from-u16-requires c κs = search needs
 
 add-from : tie.Need-add-from
 add-from c = search needs
@@ -52,16 +52,16 @@ held-requires : tie.Need-held-requires
 held-requires c κs =
     let p = c .before .before .before .before .before in
     let a = p .before .args in
-    second-before (a .prices) (a .seconds .now) (a .servers .now) (a .previous .now) (a .i) _ (p .size .ensures .0) (p .before .pre)
+    second-before (a .prices) (a .seconds .now) (a .servers .now) (a .previous .now) (a .i) _ (p .size-from-u16 .ensures .0) (p .before .pre)
 
 returns : tie.Need-returns
 returns c =
     let p = c .before .before .before .before .before .before .before in
     let a = p .before .args in
-    read-alone (a .prices) (a .seconds .now) (a .servers .now) (a .previous .now) (a .i) _ (p .size .ensures .0) (p .before .pre) _ (c .if1 .taken) (c .before .held .ensures)
+    read-alone (a .prices) (a .seconds .now) (a .servers .now) (a .previous .now) (a .i) _ (p .size-from-u16 .ensures .0) (p .before .pre) _ (c .if1 .taken) (c .before .held .ensures)
 
-size-requires-2 : tie.Need-size-requires-2
-size-requires-2 c κs = search needs
+size-from-u16-requires-2 : tie.Need-size-from-u16-requires-2
+size-from-u16-requires-2 c κs = search needs
 
 mul-held-2 : tie.Need-mul-held-2
 mul-held-2 c = search needs
@@ -72,8 +72,8 @@ element-copy-out-held-2 c =
     let a = p .before .args in
     omega (
       arith,
-      link-below (a .prices) (a .seconds .now) (a .servers .now) (a .previous .now) (a .i) _ (p .size .ensures .0) (p .before .pre) (c .before .if1 .left),
-      c .size2 .ensures .0,
+      link-below (a .prices) (a .seconds .now) (a .servers .now) (a .previous .now) (a .i) _ (p .size-from-u16 .ensures .0) (p .before .pre) (c .before .if1 .left),
+      c .size-from-u162 .ensures .0,
       p .before .pre .fits .requests-most,
     )
 
@@ -81,21 +81,21 @@ held-requires-2 : tie.Need-held-requires-2
 held-requires-2 c κs =
     let p = c .before .before .before .before .before .before .before .before .before in
     let a = p .before .args in
-    rw (c .before .size2 .ensures .0)
-    (link-second (a .prices) (a .seconds .now) (a .servers .now) (a .previous .now) (a .i) _ (p .size .ensures .0) (p .before .pre) (c .before .before .if1 .left))
+    rw (c .before .size-from-u162 .ensures .0)
+    (link-second (a .prices) (a .seconds .now) (a .servers .now) (a .previous .now) (a .i) _ (p .size-from-u16 .ensures .0) (p .before .pre) (c .before .before .if1 .left))
 
 returns-2 : tie.Need-returns-2
 returns-2 c =
     let p = c .before .before .before .before .before .before .before .before .before .before in
     let a = p .before .args in
-    read-after (a .prices) (a .seconds .now) (a .servers .now) (a .previous .now) (a .i) _ (p .size .ensures .0) (p .before .pre) _ _ (c .before .before .before .if1 .left)
-    (c .held2 .ensures ∙ rw (c .before .before .size2 .ensures .0)) (c .before .before .before .before .held .ensures)
+    read-after (a .prices) (a .seconds .now) (a .servers .now) (a .previous .now) (a .i) _ (p .size-from-u16 .ensures .0) (p .before .pre) _ _ (c .before .before .before .if1 .left)
+    (c .held2 .ensures ∙ rw (c .before .before .size-from-u162 .ensures .0)) (c .before .before .before .before .held .ensures)
 
 pub terms-at-spec : {M : Type 1} → statement M
 terms-at-spec =
     tie.close
     (tie.spec
-    size-requires
+    size-from-u16-requires
     add-from
     mul-from
     element-copy-out-from
@@ -111,7 +111,7 @@ terms-at-spec =
     element-copy-out-held
     held-requires
     returns
-    size-requires-2
+    size-from-u16-requires-2
     mul-held-2
     element-copy-out-held-2
     held-requires-2

@@ -27,8 +27,8 @@ Inv-loop prices seconds servers previous costs keeps n letters₀ end c₀ v₀ 
 abbrev μ-loop : tie.MeasureT-loop
 μ-loop prices seconds servers previous costs keeps n letters₀ end c₀ v₀ i₀ letters c v i = i
 
-size-requires : tie.Need-size-requires Inv-loop μ-loop
-size-requires c κs = search needs
+size-from-u16-requires : tie.Need-size-from-u16-requires Inv-loop μ-loop
+size-from-u16-requires c κs = search needs
 
 mul-v : tie.Need-mul-v Inv-loop μ-loop
 mul-v c = search needs
@@ -40,13 +40,13 @@ loop-holds : tie.Need-loop-holds Inv-loop μ-loop
 loop-holds c =
     let s = c .before .before .before .before .before in
     let a = s .args in
-    (search needs, refl, rw (c .before .size .ensures .0) (s .pre .1 .0 .costs (a .n) (omega arith)), rw (c .before .size .ensures .0))
+    (search needs, refl, rw (c .before .size-from-u16 .ensures .0) (s .pre .1 .0 .costs (a .n) (omega arith)), rw (c .before .size-from-u16 .ensures .0))
 
 sub-before : tie.Need-sub-before Inv-loop μ-loop
 sub-before c = search needs
 
-size-requires-2 : tie.Need-size-requires-2 Inv-loop μ-loop
-size-requires-2 c κs = search needs
+size-from-u16-requires-2 : tie.Need-size-from-u16-requires-2 Inv-loop μ-loop
+size-from-u16-requires-2 c κs = search needs
 
 add-step-back : tie.Need-add-step-back Inv-loop μ-loop
 add-step-back c = search needs
@@ -68,7 +68,7 @@ step-back-requires c κs =
       ready-less (a .prices) (a .seconds .now) (a .servers .now) (a .previous .now) (a .n) (suc (l .i - 1)) (omega arith) (s .pre .0),
       (
         l .inv .2 ∙ ap (λ (x : ℕ). best (a .prices) q x (l .c)) (sym e),
-        rw (c .before .size2 .ensures .0, add-one (l .i - 1)) (λ j z. s .pre .1 .0 .keeps (l .i - 1) j (omega arith) z),
+        rw (c .before .size-from-u162 .ensures .0, add-one (l .i - 1)) (λ j z. s .pre .1 .0 .keeps (l .i - 1) j (omega arith) z),
       ),
     )
 
@@ -85,7 +85,7 @@ loop-again c =
     let a = s .args in
     let l = c .before .before .before .before .loop in
     let q = asks (a .seconds .now) (a .servers .now) in
-    let k = c .before .before .size2 in
+    let k = c .before .before .size-from-u162 in
     let e : suc (l .i - 1) ≡ l .i = omega arith in
     let t : c .step-back .result ≡ turned (a .prices) q (l .i - 1) (l .c) (at (a .keeps .now) (suc (l .i - 1))) (l .v) =
     c .step-back .ensures ∙ rw (k .ensures .0, add-one (l .i - 1)) in (
@@ -116,12 +116,12 @@ write-marks-spec =
     (tie.spec
     Inv-loop
     μ-loop
-    size-requires
+    size-from-u16-requires
     mul-v
     shared-slice-read-v
     loop-holds
     sub-before
-    size-requires-2
+    size-from-u16-requires-2
     add-step-back
     mul-step-back
     shared-slice-read-step-back

@@ -1,0 +1,25 @@
+-- What a legal mark says of its request.
+use mathlib.Core.Bool.{true, false≢true}
+use mathlib.Core.Logic.{_≢_}
+use mathlib.Core.Option.{Option, none, some}
+use mathlib.Core.Path.{_≡_, refl}
+use Prim.Native.Nat.{ℕ, pred}
+use lib.Dec.{eqb}
+use borrow.Author.Tests.{eq-eqb, not-true}
+use Rattle.base.specs.Choice.{not-both}
+use Rattle.model.specs.Requests.{Requests, previous}
+use Rattle.model.specs.Marking.{K, S, legal, some?}
+
+-- a K has a previous request
+pub kept-from : (q : Requests) (i : ℕ) → legal q i K ≡ true → (j : ℕ) × (previous q i ≡ some j)
+unfolding legal some?
+kept-from q i e = go (previous q i) refl
+  where
+    go : (o : Option ℕ) → previous q i ≡ o → (j : ℕ) × (previous q i ≡ some j)
+    go none p = absurd (false≢true (rw p at e))
+    go (some j) p = (j, p)
+
+-- an S is at another server than the request before
+pub sent-apart : (q : Requests) (i : ℕ) → legal q i S ≡ true → q .server i ≢ q .server (pred i)
+unfolding legal
+sent-apart q i e p = not-both (eq-eqb (q .server i) (q .server (pred i)) p) (not-true (eqb (q .server i) (q .server (pred i))) e)

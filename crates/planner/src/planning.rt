@@ -1,0 +1,131 @@
+// The plan of a log: its cost, its marks and its rows.
+ghost use mathlib.Core.Path.{_≡_};
+ghost use Prim.Native.Nat.{_<_, _≤_};
+ghost use lib.ListN.{length, take};
+ghost use Rattle.base.specs.declared.Verdict.the-variants.{Refused};
+ghost use Rattle.model.specs.Requests.{Within};
+ghost use Rattle.planner.specs.Answers.{plan-verdict, planned, marks-left, rows-left};
+ghost use Rattle.planner.specs.Asked.{asks};
+ghost use Rattle.planner.specs.Fits.{Ready};
+ghost use Rattle.planner.specs.PlanAnswer.{Marked, Answered, Plan-answered, marked-rows, answer-of};
+use crate::Planned;
+use crate::holders::holders;
+use crate::holders::row_count;
+use crate::requests::Loaded;
+use crate::requests::Setup;
+use crate::requests::load;
+use crate::rows::put_all;
+use crate::table::fill;
+use crate::walk::write_marks;
+use base::Refusal;
+use base::bytes::clear8;
+use base::bytes::clear32;
+use base::bytes::copy;
+use base::widths::size_from_u16;
+use base::widths::size_from_u32;
+use base::widths::u64_from_size;
+
+// 31: an output is shorter than what is needed.
+fn short(needed: usize) -> Planned
+    ensures { λ r. ⌜ r ≡ answer-of (Refused (record { number = 31; place = needed })) 0 0 ⌝ }
+{
+    Planned::Refused(Refusal {
+        number: 31,
+        place: u64_from_size(needed),
+    })
+}
+
+// The answer, from the marks of n requests and their cost.
+fn answer(
+    n: u16,
+    count: u8,
+    cost: u64,
+    seconds: &[u32],
+    servers: &[u16],
+    letters: &[u8],
+    marks: &mut [u8],
+    rows: &mut [u32],
+) -> Planned
+    requires { ⌜ Marked n count (now seconds) (now servers) (now letters) ⌝ }
+    ensures { λ r. ⌜ Answered (marked-rows n count (now (seconds .entry)) (now (servers .entry)) (now (letters .entry))) n cost (take n (now (letters .entry))) (now (marks .entry)) (now (rows .entry)) r (now (marks .exit)) (now (rows .exit)) ⌝ }
+{
+    let words = holders(servers, letters, n);
+    let found = row_count(&words, letters, n);
+    let end = size_from_u16(n);
+    let needed = 4 * size_from_u32(found);
+    if marks.len() < end {
+        return short(end);
+    }
+    if rows.len() < needed {
+        return short(needed);
+    }
+    copy(marks, 0, &letters[..end]);
+    clear8(marks, end);
+    put_all(seconds, servers, &words, letters, n, count, rows);
+    clear32(rows, needed);
+    Planned::Plan { cost, rows: found }
+}
+
+// The plan of the requests that were read.
+fn plan_of(
+    setup: Setup,
+    seconds: &[u32; 2049],
+    servers: &[u16; 2049],
+    previous: &[u16; 2049],
+    marks: &mut [u8],
+    rows: &mut [u32],
+) -> Planned
+    requires { ⌜ Ready (setup .prices) (now seconds) (now servers) (now previous) (setup .requests) ⌝ }
+    requires { ⌜ (setup .«server_count» ≤ 64) × Within (setup .«server_count») (asks (now seconds) (now servers)) (setup .requests) ⌝ }
+    ensures { λ r. ⌜ Plan-answered (setup .prices) (asks (now (seconds .entry)) (now (servers .entry))) (setup .requests) (setup .«server_count») (now (marks .entry)) (now (rows .entry)) r (now (marks .exit)) (now (rows .exit)) ⌝ }
+{
+    let mut costs = [0u64; 2049];
+    let mut keeps = [0u64; 2049];
+    let mut letters = [0u8; 2048];
+    let n = setup.requests;
+    fill(
+        setup.prices,
+        seconds,
+        servers,
+        previous,
+        n,
+        &mut costs,
+        &mut keeps,
+    );
+    write_marks(
+        setup.prices,
+        seconds,
+        servers,
+        previous,
+        &costs,
+        &keeps,
+        n,
+        &mut letters,
+    );
+    answer(
+        n,
+        setup.server_count,
+        costs[size_from_u16(n)],
+        seconds,
+        servers,
+        &letters,
+        marks,
+        rows,
+    )
+}
+
+// The cheapest schedule that there could have been for a log (01's 'The plan'): its cost, its marks as letters and its rows.
+pub fn plan(log: &[u8], marks: &mut [u8], rows: &mut [u32]) -> Planned
+    ensures { λ r. ⌜ r ≡ planned (plan-verdict (now (log .entry)) (length (now (marks .entry))) (length (now (rows .entry)))) (now (log .entry)) ⌝ }
+    ensures { λ _. ⌜ now (marks .exit) ≡ marks-left (now (log .entry)) (now (marks .entry)) (now (rows .entry)) ⌝ }
+    ensures { λ _. ⌜ now (rows .exit) ≡ rows-left (now (log .entry)) (now (marks .entry)) (now (rows .entry)) ⌝ }
+{
+    let mut seconds = [0u32; 2049];
+    let mut servers = [0u16; 2049];
+    let mut previous = [0u16; 2049];
+    let loaded = load(log, &mut seconds, &mut servers, &mut previous);
+    match loaded {
+        Loaded::Refused(r) => Planned::Refused(r),
+        Loaded::Log(setup) => plan_of(setup, &seconds, &servers, &previous, marks, rows),
+    }
+}
