@@ -10,7 +10,8 @@ use borrow.Author.Tests.{le-leb, lt-leb, eq-eqb, ne-eqb}
 use Rattle.base.specs.Choice.{le-or-lt, same-or-not}
 use Rattle.model.specs.Requests.{Requests, latest, Rising}
 use Rattle.model.specs.RequestLaws.{none-some, latest-hit, latest-miss, rises-le}
-use Rattle.model.specs.Marking.{Mark, K, S, keeps, sent}
+use Rattle.model.specs.Marking.{Mark, K, S, keeps}
+use Rattle.model.specs.Marking as marking
 use Rattle.model.specs.Sums.{sum}
 use Rattle.bounds.specs.History.{recent, near, next, last-use, mark, transfers}
 
@@ -108,17 +109,17 @@ module _ (W : ℕ) (q : Requests) where
 
   -- an S is one transfer more
   pub transfers-S : (i : ℕ) → mark W q (suc i) ≡ S → transfers W q (suc i) ≡ suc (transfers W q i)
-  unfolding transfers sent sum keeps
+  unfolding transfers marking.sent sum keeps
   transfers-S i e = rw e (omega arith)
 
   -- a K is none
   pub transfers-K : (i : ℕ) → mark W q (suc i) ≡ K → transfers W q (suc i) ≡ transfers W q i
-  unfolding transfers sent sum keeps
+  unfolding transfers marking.sent sum keeps
   transfers-K i e = rw e (omega arith)
 
   -- there are no more than requests
   pub transfers-most : (i : ℕ) → transfers W q i ≤ i
-  unfolding transfers sent sum
+  unfolding transfers marking.sent sum
   transfers-most zero = omega arith
   transfers-most (suc i) = go (mark W q (suc i)) refl (transfers-most i)
     where
