@@ -8,6 +8,10 @@
 #include <stddef.h>
 #include <stdint.h>
 
+#ifdef __cplusplus
+extern "C" {
+#endif
+
 /* number 0 and up to two values, or a refusal's number and place */
 struct caching_answer {
     uint32_t number;
@@ -75,5 +79,9 @@ struct caching_cache_answer caching_scan(struct caching_cache cache, uint32_t se
 
 /* value: the running cost */
 struct caching_cache_answer caching_close(struct caching_cache cache);
+
+#ifdef __cplusplus
+}
+#endif
 
 #endif

@@ -1,4 +1,4 @@
-//! include/caching.h: a C program that makes every call, compiled by gcc over the library and run.
+//! include/caching.h: a program that makes every call, compiled as C and as C++ over the library and run.
 
 use std::path::{Path, PathBuf};
 use std::process::Command;
@@ -29,18 +29,32 @@ close: 0 0 62 0
 close again: 33 0 0 0
 ";
 
-#[test]
-fn every_call_from_c() {
+/// What c/calls.c prints, built by a compiler as a language and its standard.
+fn printed(compiler: &str, language: &str, standard: &str) -> String {
     let here = Path::new(env!("CARGO_MANIFEST_DIR"));
     let library = std::env::var("EXPORTS_DIR").map_or(here.join("../target/staticlib"), PathBuf::from);
-    let program = Path::new(env!("CARGO_TARGET_TMPDIR")).join("calls");
-    let built = Command::new("gcc")
-        .args(["-std=c11", "-Wall", "-Wextra", "-Werror", "-O1", "-o"])
-        .args([&program, &here.join("c/calls.c"), &library.join("libexports.a")])
+    let program = Path::new(env!("CARGO_TARGET_TMPDIR")).join(format!("calls-{standard}"));
+    let built = Command::new(compiler)
+        .args([&format!("-std={standard}"), "-Wall", "-Wextra", "-Werror", "-O1", "-x", language])
+        .arg(here.join("c/calls.c"))
+        .args(["-x", "none"])
+        .arg(library.join("libexports.a"))
+        .arg("-o")
+        .arg(&program)
         .output()
         .unwrap();
     assert!(built.status.success(), "{}", String::from_utf8_lossy(&built.stderr));
     let ran = Command::new(program).output().unwrap();
     assert!(ran.status.success(), "{ran:?}");
-    assert_eq!(String::from_utf8(ran.stdout).unwrap(), PRINTED);
+    String::from_utf8(ran.stdout).unwrap()
+}
+
+#[test]
+fn every_call_from_c() {
+    assert_eq!(printed("gcc", "c", "c11"), PRINTED);
+}
+
+#[test]
+fn every_call_from_cpp() {
+    assert_eq!(printed("g++", "c++", "c++17"), PRINTED);
 }

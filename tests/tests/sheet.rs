@@ -131,11 +131,26 @@ fn one_bit_flipped_in_every_byte() {
     }
 }
 
+/// The longest log, and bytes after it: the program reads past the log's end, so it does not print its sheet.
 #[test]
 fn longer_than_any_log() {
-    let mut file = random_log(&mut Random::new(1), 2048).bytes();
-    file.resize(100_000, 0);
-    is_refused(&file);
+    let (log, sheet) = long_week();
+    assert_eq!(log.len(), 12_328);
+    assert_eq!(run(&log), sheet);
+    for length in [12_329, 12_330, 100_000] {
+        let mut input = log.clone();
+        input.resize(length, 0);
+        assert_eq!(run(&input), "refused input 9 place 0\n");
+    }
+}
+
+/// A lower number than 9 is found in a long input too.
+#[test]
+fn a_lower_fault_in_a_long_input() {
+    let (mut input, _) = long_week();
+    input.resize(100_000, 0);
+    input[0] = 2;
+    assert_eq!(run(&input), "refused input 2 place 0\n");
 }
 
 #[test]
