@@ -51,6 +51,13 @@ struct caching_cache_answer {
     struct caching_answer answer;
 };
 
+/* running: the running cost after the scan, 0 where it is refused */
+struct caching_scan_answer {
+    struct caching_cache cache;
+    struct caching_answer answer;
+    uint64_t running;
+};
+
 /* the sum of a log's bytes */
 uint32_t caching_sum(const uint8_t *log, size_t log_length);
 
@@ -75,7 +82,10 @@ struct caching_answer caching_least(const uint8_t *log, size_t log_length, uint6
 struct caching_cache_answer caching_start(uint8_t file_class, uint8_t server_count, uint8_t home);
 
 /* value 0: kept; value 1: sent, more: from which server */
-struct caching_cache_answer caching_scan(struct caching_cache cache, uint32_t second, uint16_t server);
+struct caching_scan_answer caching_scan(struct caching_cache cache, uint32_t second, uint16_t server);
+
+/* value: the running cost, of a closed state too */
+struct caching_answer caching_running(struct caching_cache cache);
 
 /* value: the running cost */
 struct caching_cache_answer caching_close(struct caching_cache cache);

@@ -46,11 +46,15 @@ int main(void)
     struct caching_cache_answer live = caching_start(0, 3, 0);
     say("start", live.answer);
     for (int k = 0; k < 4; k++) {
-        live = caching_scan(live.cache, seconds[k], servers[k]);
-        say("scan", live.answer);
+        struct caching_scan_answer scan = caching_scan(live.cache, seconds[k], servers[k]);
+        say("scan", scan.answer);
+        printf("running: %llu\n", (unsigned long long)scan.running);
+        live.cache = scan.cache;
     }
+    say("running", caching_running(live.cache));
     live = caching_close(live.cache);
     say("close", live.answer);
     say("close again", caching_close(live.cache).answer);
+    say("running still", caching_running(live.cache));
     return 0;
 }

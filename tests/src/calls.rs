@@ -30,6 +30,9 @@ pub trait Calls {
 
     fn scan(cache: &Cache, second: u32, server: u16) -> (Cache, Result<Served, Refusal>);
 
+    /// The running cost, of a closed state too.
+    fn running(cache: &Cache) -> Result<u64, Refusal>;
+
     /// The running cost.
     fn close(cache: &Cache) -> (Cache, Result<u64, Refusal>);
 }
@@ -104,6 +107,10 @@ impl Calls for Simple {
 
     fn scan(cache: &Cache, second: u32, server: u16) -> (Cache, Result<Served, Refusal>) {
         cache.scan(second, server)
+    }
+
+    fn running(cache: &Cache) -> Result<u64, Refusal> {
+        cache.running()
     }
 
     fn close(cache: &Cache) -> (Cache, Result<u64, Refusal>) {

@@ -21,11 +21,21 @@ pub struct Cache {
     pub closed: bool,
 }
 
-/// How a request was served.
+/// How a request was served: kept, or sent from a server; and the running cost after it.
 #[derive(Clone, Copy, Debug, PartialEq, Eq)]
-pub enum Served {
-    Kept,
-    Sent(u16),
+pub struct Served {
+    pub source: Option<u16>,
+    pub running: u64,
+}
+
+impl Served {
+    pub fn mark(&self) -> Mark {
+        if self.source.is_some() {
+            Mark::S
+        } else {
+            Mark::K
+        }
+    }
 }
 
 pub const MOST_HELD: u32 = 256_000_000;
@@ -135,13 +145,10 @@ impl Cache {
             }
         }
         let kept = server == self.last || (self.has(at) && t <= self.end(at));
-        let served = if kept {
-            Served::Kept
-        } else {
+        if !kept {
             next.transfers += 1;
             next.last_use[self.last as usize] = second;
-            Served::Sent(self.last)
-        };
+        }
         next.holders |= 1 << server;
         next.last_use[at] = second;
         next.last = server;
@@ -153,7 +160,8 @@ impl Cache {
                 next.last_use[other] = 0;
             }
         }
-        (next, Ok(served))
+        let source = if kept { None } else { Some(self.last) };
+        (next, Ok(Served { source, running: next.cost() }))
     }
 
     pub fn close(&self) -> (Cache, Result<u64, Refusal>) {
@@ -163,11 +171,19 @@ impl Cache {
         if self.closed {
             return (*self, refuse(33, 0));
         }
-        (Cache { closed: true, ..*self }, Ok(self.running()))
+        (Cache { closed: true, ..*self }, Ok(self.cost()))
+    }
+
+    /// The running cost, asked for without closing: a closed state is answered too.
+    pub fn running(&self) -> Result<u64, Refusal> {
+        if self.is_unsound() {
+            return refuse(32, 0);
+        }
+        Ok(self.cost())
     }
 
     /// The running cost, of a state with a class from 0 to 7.
-    pub fn running(&self) -> u64 {
+    pub fn cost(&self) -> u64 {
         let prices = Prices::of(self.class);
         prices.hold * self.held as u64 + prices.transfer * self.transfers as u64
     }
@@ -244,7 +260,7 @@ mod tests {
             for request in &requests {
                 let (next, served) = cache.scan(request.second, request.server);
                 assert!(!next.is_unsound());
-                marks.push(if served.unwrap() == Served::Kept { Mark::K } else { Mark::S });
+                marks.push(served.unwrap().mark());
                 cache = next;
             }
             let history = history(header.class, header.home, &requests);
@@ -267,10 +283,12 @@ mod tests {
         assert_eq!(cache.scan(LAST_SECOND + 1, 1), (cache, refuse(12, 0)));
         assert_eq!(ZEROS.scan(1, 0), (ZEROS, refuse(11, 0)));
         assert_eq!(ZEROS.close(), (ZEROS, refuse(32, 0)));
+        assert_eq!(ZEROS.running(), refuse(32, 0));
         let (closed, cost) = cache.close();
         assert_eq!((closed, cost), (Cache { closed: true, ..cache }, Ok(0)));
         assert_eq!(closed.scan(1, 1), (closed, refuse(33, 0)));
         assert_eq!(closed.close(), (closed, refuse(33, 0)));
+        assert_eq!(closed.running(), cost);
         let full = Cache { requests: 2048, ..cache };
         assert_eq!(full.scan(1, 1), (full, refuse(34, 0)));
         assert!(full.close().1.is_ok());

@@ -1,7 +1,7 @@
 //! 01, 'The sheet': what the program prints for any input.
 
 use crate::log::{self, Log};
-use crate::online::{self, Served};
+use crate::online;
 use crate::planner::{self, letter};
 use crate::Refusal;
 
@@ -14,15 +14,12 @@ pub fn sheet(log: &Log) -> String {
     let mut text = String::from("scan second station plan live least bill\n");
     for (i, request) in log.requests.iter().enumerate() {
         let (next, served) = cache.scan(request.second, request.server);
-        let live = match served {
-            Ok(Served::Kept) => 'K',
-            Ok(Served::Sent(_)) => 'S',
-            Err(refusal) => panic!("{refusal:?}"),
-        };
+        let served = served.unwrap();
+        let live = letter(served.mark()) as char;
         cache = next;
         let mark = letter(plan.marks[i]) as char;
         let (number, second, server) = (i + 1, request.second, request.server);
-        text += &format!("{number} {second} {server} {mark} {live} {} {}\n", least[i + 1], cache.running());
+        text += &format!("{number} {second} {server} {mark} {live} {} {}\n", least[i + 1], served.running);
     }
     text + &format!("rows {}\n", plan.rows.len())
 }

@@ -22,11 +22,17 @@ least 3: 31
 least 4: 42
 start: 0 0 0 0
 scan: 0 0 1 0
+running: 11
 scan: 0 0 1 1
+running: 23
 scan: 0 0 0 0
+running: 50
 scan: 0 0 1 1
+running: 62
+running: 0 0 62 0
 close: 0 0 62 0
 close again: 33 0 0 0
+running still: 0 0 62 0
 ";
 
 /// What c/calls.c prints, built by a compiler as a language and its standard.

@@ -15,8 +15,9 @@ enum Call {
     Close,
 }
 
-/// One call on a state, by both; what it gave, and the state given back.
+/// One call on a state, and its running cost, by both; what the call gave, and the state given back.
 fn call<C: Calls>(cache: &Cache, call: Call, met: &mut Met) -> (Cache, Result<Option<Served>, Refusal>) {
+    assert_eq!(C::running(cache), Simple::running(cache), "{cache:?}");
     match call {
         Call::Scan(second, server) => {
             let a = Simple::scan(cache, second, server);
@@ -91,7 +92,7 @@ impl Run {
         match (next, outcome) {
             (Call::Scan(second, server), Ok(served)) => {
                 self.taken.push(Request { second, server });
-                self.marks.push(if served == Some(Served::Kept) { Mark::K } else { Mark::S });
+                self.marks.push(served.unwrap().mark());
             }
             (Call::Close, Ok(_)) => self.closed = true,
             _ => assert_eq!(cache, self.cache),
@@ -113,7 +114,7 @@ impl Run {
         C::write(&self.header, &log.seconds(), &log.servers(), &mut file).unwrap();
         let mut costs = vec![0; self.taken.len() + 1];
         C::least(&file, &mut costs).unwrap();
-        let (least, running) = (costs[self.taken.len()], self.cache.running());
+        let (least, running) = (costs[self.taken.len()], C::running(&self.cache).unwrap());
         assert!(least <= running && running <= 3 * least, "{log:?} {least} {running}");
     }
 }

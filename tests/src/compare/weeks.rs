@@ -2,7 +2,7 @@
 
 use crate::calls::Calls;
 use crate::log::{Header, Log, Request};
-use crate::online::Served;
+use crate::planner::letter;
 use crate::{refuse, Refusal};
 
 /// A week with home 0: what 01 says of it, as far as it does.
@@ -117,8 +117,11 @@ impl Week {
         let (mut running, mut marks) = (vec![0], String::new());
         for &(second, server) in self.requests {
             let (next, served) = C::scan(&cache, second, server);
-            marks.push(if served.unwrap() == Served::Kept { 'K' } else { 'S' });
-            running.push(C::close(&next).1.unwrap());
+            let served = served.unwrap();
+            marks.push(letter(served.mark()) as char);
+            running.push(served.running);
+            assert_eq!(C::running(&next), Ok(served.running));
+            assert_eq!(C::close(&next).1, Ok(served.running));
             cache = next;
         }
         assert!(running.ends_with(self.running), "{running:?}");

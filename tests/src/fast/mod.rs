@@ -49,6 +49,10 @@ impl Calls for Fast {
         (next, served)
     }
 
+    fn running(cache: &Cache) -> Result<u64, Refusal> {
+        online::running(cache)
+    }
+
     fn close(cache: &Cache) -> (Cache, Result<u64, Refusal>) {
         let mut next = *cache;
         let cost = online::close(&mut next);

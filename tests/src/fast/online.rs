@@ -1,4 +1,4 @@
-//! Scan and close on a state in place, going through the copies that stand.
+//! Scan, running cost and close on a state in place, going through the copies that stand.
 
 use crate::log::{LAST_SECOND, MOST_REQUESTS};
 use crate::online::{Cache, Served, MOST_HELD};
@@ -57,7 +57,15 @@ pub fn scan(cache: &mut Cache, second: u32, server: u16) -> Result<Served, Refus
     cache.second = second;
     cache.requests += 1;
     cache.held += held;
-    Ok(if kept { Served::Kept } else { Served::Sent(last as u16) })
+    let source = if kept { None } else { Some(last as u16) };
+    Ok(Served { source, running: cache.cost() })
+}
+
+pub fn running(cache: &Cache) -> Result<u64, Refusal> {
+    if unsound(cache) {
+        return refuse(32, 0);
+    }
+    Ok(cache.cost())
 }
 
 pub fn close(cache: &mut Cache) -> Result<u64, Refusal> {
@@ -68,5 +76,5 @@ pub fn close(cache: &mut Cache) -> Result<u64, Refusal> {
         return refuse(33, 0);
     }
     cache.closed = true;
-    Ok(cache.running())
+    Ok(cache.cost())
 }

@@ -40,6 +40,13 @@ struct CacheAnswer {
     answer: Answer,
 }
 
+#[repr(C)]
+struct ScanAnswer {
+    cache: Cache,
+    answer: Answer,
+    running: u64,
+}
+
 #[link(name = "exports", kind = "static")]
 extern "C" {
     fn caching_sum(log: *const u8, log_length: usize) -> u32;
@@ -71,7 +78,8 @@ extern "C" {
     ) -> Answer;
     fn caching_least(log: *const u8, log_length: usize, costs: *mut u64, costs_length: usize) -> Answer;
     fn caching_start(class: u8, server_count: u8, home: u8) -> CacheAnswer;
-    fn caching_scan(cache: Cache, second: u32, server: u16) -> CacheAnswer;
+    fn caching_scan(cache: Cache, second: u32, server: u16) -> ScanAnswer;
+    fn caching_running(cache: Cache) -> Answer;
     fn caching_close(cache: Cache) -> CacheAnswer;
 }
 
@@ -138,16 +146,24 @@ impl Calls for Library {
     }
 
     fn scan(cache: &Cache, second: u32, server: u16) -> (Cache, Result<Served, Refusal>) {
-        let CacheAnswer { cache, answer } = unsafe { caching_scan(*cache, second, server) };
-        let served = answer.outcome().map(|(sent, source)| match sent {
+        let ScanAnswer { cache, answer, running } = unsafe { caching_scan(*cache, second, server) };
+        let outcome = answer.outcome();
+        if outcome.is_err() {
+            assert_eq!(running, 0);
+        }
+        let served = outcome.map(|(sent, source)| match sent {
             0 => {
                 assert_eq!(source, 0);
-                Served::Kept
+                Served { source: None, running }
             }
-            1 => Served::Sent(source.try_into().unwrap()),
+            1 => Served { source: Some(source.try_into().unwrap()), running },
             _ => panic!("neither kept nor sent: {sent}"),
         });
         (cache, served)
+    }
+
+    fn running(cache: &Cache) -> Result<u64, Refusal> {
+        unsafe { caching_running(*cache) }.value()
     }
 
     fn close(cache: &Cache) -> (Cache, Result<u64, Refusal>) {
