@@ -1,10 +1,10 @@
 -- What it means for a lent output that a call is not refused.
 use mathlib.Core.List.{List, [], _∷_}
-use mathlib.Core.Path.{_≡_, sym, _∙_}
+use mathlib.Core.Path.{_≡_, sym}
 use Prim.Native.Nat.{ℕ, _+_, _*_, _≤_}
 use borrow.Author.Tests.{ltb-false}
 use Rattle.base.specs.Refusals.{short}
-use Rattle.base.specs.RefusalLaws.{first-append, otherwise-passed, first-passed}
+use Rattle.base.specs.RefusalLaws.{append-passed, first-passed}
 use Rattle.base.specs.declared.Verdict.the-variants.{Passed}
 use Rattle.log.specs.Fields.{request-count, length-for}
 use Rattle.log.specs.Conditions.{log-conditions, verdict-of, Accepted}
@@ -18,7 +18,7 @@ pub read-passed : (s : List ℕ) (seconds servers : ℕ) → read-verdict s seco
     → Accepted s × (request-count s ≤ seconds) × (request-count s ≤ servers)
 unfolding read-verdict verdict-of Accepted
 read-passed s seconds servers e =
-    let parts = otherwise-passed _ _ (sym (first-append (log-conditions s) _) ∙ e) in
+    let parts = append-passed (log-conditions s) _ .0 e in
     let room = first-passed (short (request-count s) seconds ∷ short (request-count s) servers ∷ []) .0 (parts .1) in
     (parts .0, ltb-false seconds (request-count s) (room 0), ltb-false servers (request-count s) (room 1))
 
@@ -26,7 +26,7 @@ read-passed s seconds servers e =
 pub write-passed : (c : Contents) (log : ℕ) → write-verdict c log ≡ Passed → Writable c × (length-for (length (c .seconds)) ≤ log)
 unfolding write-verdict
 write-passed c log e =
-    let parts = otherwise-passed _ _ (sym (first-append (contents-conditions c) _) ∙ e) in
+    let parts = append-passed (contents-conditions c) _ .0 e in
     let room = first-passed (short (length-for (length (c .seconds))) log ∷ []) .0 (parts .1) in
     (parts .0, ltb-false log (length-for (length (c .seconds))) (room 0))
 
