@@ -22,7 +22,8 @@ use Rattle.log.specs.Contents.{Contents, contents-conditions, encode}
 use Rattle.log.specs.Answers.{read-verdict, write-verdict}
 use Rattle.log.specs.AnswerLaws.{read-passed, write-passed}
 use Rattle.log.specs.AcceptedLaws.{seconds-length, servers-length}
-use Rattle.log.specs.EncodeLaws.{Sixteen, encode-length}
+use Rattle.log.specs.Ranges.{Sixteen}
+use Rattle.log.specs.EncodeLaws.{encode-length}
 use Rattle.checker.specs.Answers.{check-conditions, check-verdict-of}
 use Rattle.planner.specs.Answers.{marks-of, rows-of-plan, plan-verdict, least-costs, least-verdict}
 use Rattle.text.specs.Answers.{room-verdict}
