@@ -78,6 +78,13 @@ pub otherwise-passed : (v w : Verdict) → otherwise v w ≡ Passed → (v ≡ P
 otherwise-passed Passed w e = (refl, e)
 otherwise-passed (Refused r) w e = let z : _≡_ {A = ℕ} 0 1 = cc in absurd (omega arith)
 
+-- two lists joined pass if and only if each does
+pub append-passed : (xs ys : List Condition) → (first (xs ++ ys) ≡ Passed) ↔ ((first xs ≡ Passed) × (first ys ≡ Passed))
+append-passed xs ys = (
+  λ e. otherwise-passed (first xs) (first ys) (sym (first-append xs ys) ∙ e),
+  λ (p, q). first-append xs ys ∙ rw p q,
+)
+
 -- ---- the conditions of each of the first n things
 
 -- the conditions of one thing more

@@ -12,7 +12,7 @@ use Rattle.prices.specs.declared.Prices.{Prices}
 use Rattle.prices.specs.Prices.{prices-of, window}
 use Rattle.prices.specs.PriceLaws.{class-in-range}
 use Rattle.log.specs.declared.Setup.{Setup}
-use Rattle.log.specs.AcceptedLaws.{Allowed}
+use Rattle.log.specs.Ranges.{Allowed}
 use Rattle.model.specs.Requests.{Requests, requests, Rising, Within}
 use Rattle.model.specs.Plan.{plan-cost}
 use Rattle.model.specs.PlanLaws.{plan-best}

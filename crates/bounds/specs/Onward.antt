@@ -7,7 +7,7 @@ use lib.ListN.{length}
 use Rattle.base.specs.declared.Verdict.{Verdict}
 use Rattle.base.specs.declared.Verdict.the-variants.{Passed, Refused}
 use Rattle.log.specs.declared.Setup.{Setup}
-use Rattle.log.specs.AcceptedLaws.{Allowed}
+use Rattle.log.specs.Ranges.{Allowed}
 use Rattle.model.specs.Requests.{Requests}
 use Rattle.online.specs.declared.Cache.{Cache}
 use Rattle.online.specs.Rules.{accept, shut}

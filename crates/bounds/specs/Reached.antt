@@ -14,7 +14,7 @@ use Rattle.base.specs.Sets.{has}
 use Rattle.base.specs.declared.Verdict.the-variants.{Passed}
 use Rattle.prices.specs.Prices.{prices-of, window}
 use Rattle.log.specs.declared.Setup.{Setup}
-use Rattle.log.specs.AcceptedLaws.{Allowed}
+use Rattle.log.specs.Ranges.{Allowed}
 use Rattle.model.specs.Requests.{Requests, latest, Rising, Within}
 use Rattle.model.specs.RequestLaws.{none-some, latest-some}
 use Rattle.online.specs.declared.Cache.{Cache}

@@ -13,9 +13,9 @@ use Rattle.log.specs.Conditions.{verdict-of}
 use Rattle.log.specs.Conditions as logs
 use Rattle.model.specs.LogRequests.{requests-in, prices-in}
 use Rattle.model.specs.Checking.{schedule-conditions, check-cost}
-use Rattle.model.specs.CheckingLaws.{Accepted, accepts-iff}
+use Rattle.model.specs.CheckingLaws.{accepts-iff}
 use Rattle.checker.specs.declared.Checked.the-variants as answer
-use Rattle.checker.specs.Answers.{check-verdict-of, checked, check-answer}
+use Rattle.checker.specs.Answers.{check-verdict-of, checked, check-answer, Answered}
 use Rattle.checker.specs.AnswerLaws.{verdict-parts}
 
 -- a cost is answered where the verdict passed
@@ -24,12 +24,7 @@ unfolding checked
 cost-passed Passed c v e = (refl, let d : v ≡ c = cc in d)
 cost-passed (Refused r) c v e = let z : _≡_ {A = ℕ} 0 1 = cc in absurd (omega arith)
 
--- an accepted log, rows that are accepted for its requests, and their cost
-pub record Answered (log ns : List ℕ) (v : ℕ) : Type 0 where
-  pub log-accepted : logs.Accepted log
-  pub rows-accepted : Accepted (server-count log) (requests-in log) (request-count log) ns
-  pub cost-is : v ≡ check-cost (prices-in log) ns
-
+-- it is answered if and only if this holds
 pub answers-cost : (log ns : List ℕ) (v : ℕ) → (check-answer log ns ≡ answer.Cost v) ↔ Answered log ns v
 unfolding check-answer checked logs.Accepted
 answers-cost log ns v = (to, from)

@@ -1,13 +1,15 @@
 -- What the checker answers, by the conditions 1 to 18 of 01's 'Refused because of the input'. Assumes nothing.
 use mathlib.Core.List.{List, _++_}
+use mathlib.Core.Path.{_≡_}
 use Prim.Native.Nat.{ℕ}
 use Rattle.base.specs.declared.Verdict.{Verdict}
 use Rattle.base.specs.declared.Verdict.the-variants.{Passed, Refused}
 use Rattle.base.specs.Refusals.{Condition, first}
 use Rattle.log.specs.Fields.{server-count, request-count}
 use Rattle.log.specs.Conditions.{log-conditions}
+use Rattle.log.specs.Conditions as logs
 use Rattle.model.specs.LogRequests.{requests-in, prices-in}
-use Rattle.model.specs.Checking.{schedule-conditions, check-cost}
+use Rattle.model.specs.Checking.{schedule-conditions, check-cost, Accepted}
 use Rattle.checker.specs.declared.Checked.{Checked}
 use Rattle.checker.specs.declared.Checked.the-variants as answer
 
@@ -27,3 +29,9 @@ checked (Refused r) cost = answer.Refused r
 -- what the checker answers to the bytes of a log and the numbers of a schedule
 unfoldable pub check-answer : List ℕ → List ℕ → Checked
 check-answer log ns = checked (check-verdict-of log ns) (check-cost (prices-in log) ns)
+
+-- an accepted log, rows that are accepted for its requests, and their cost
+pub record Answered (log ns : List ℕ) (v : ℕ) : Type 0 where
+  pub log-accepted : logs.Accepted log
+  pub rows-accepted : Accepted (server-count log) (requests-in log) (request-count log) ns
+  pub cost-is : v ≡ check-cost (prices-in log) ns

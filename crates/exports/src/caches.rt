@@ -5,6 +5,7 @@ ghost use Rattle.exports.specs.Answers.{given, of-start, of-scan, runnin
 use crate::Answer;
 use crate::accepted;
 use crate::refused;
+use base::widths::u64_from_u16;
 use log::Setup;
 use online::Cache;
 use online::CloseOutcome;
@@ -53,19 +54,13 @@ pub extern "C" fn caching_start(class: u8, server_count: u8, home: u8) -> CacheA
     }
 }
 
-fn long(x: u16) -> u64
-    ensures { λ r. ⌜ r ≡ x ⌝ }
-{
-    x as u64
-}
-
 // Value 0: kept; value 1: sent, and the source.
 fn of_scan(outcome: ScanOutcome) -> Answer
     ensures { λ r. ⌜ r ≡ of-scan outcome ⌝ }
 {
     match outcome {
         ScanOutcome::Kept { cost: _ } => accepted(0, 0),
-        ScanOutcome::Sent { source, cost: _ } => accepted(1, long(source)),
+        ScanOutcome::Sent { source, cost: _ } => accepted(1, u64_from_u16(source)),
         ScanOutcome::Refused(r) => refused(r),
     }
 }

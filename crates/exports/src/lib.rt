@@ -8,6 +8,7 @@ mod schedules;
 ghost use mathlib.Core.Path.{_≡_};
 ghost use Rattle.exports.specs.Answers.{accepted, refused};
 use base::Refusal;
+use base::widths::u32_from_u8;
 
 // An answer in numbers: number 0 and up to two values, or a refusal's number and place.
 #[repr(C)]
@@ -30,18 +31,12 @@ pub(crate) fn accepted(value: u64, more: u64) -> Answer
     }
 }
 
-fn word(x: u8) -> u32
-    ensures { λ r. ⌜ r ≡ x ⌝ }
-{
-    x as u32
-}
-
 // A refused call's answer.
 pub(crate) fn refused(refusal: Refusal) -> Answer
     ensures { λ r. ⌜ r ≡ refused refusal ⌝ }
 {
     Answer {
-        number: word(refusal.number),
+        number: u32_from_u8(refusal.number),
         place: refusal.place,
         value: 0,
         more: 0,

@@ -1,15 +1,14 @@
 // Sum, reader and writer.
 ghost use mathlib.Core.Path.{_≡_};
 ghost use lib.ListN.{length};
-ghost use Rattle.base.specs.Lent.{lent};
 ghost use Rattle.log.specs.Sum.{sum-of};
-ghost use Rattle.log.specs.Fields.{seconds-of, servers-of};
-ghost use Rattle.log.specs.Contents.{contents, encode};
-ghost use Rattle.log.specs.Answers.{read-verdict, decoded, write-verdict, written};
+ghost use Rattle.log.specs.Contents.{contents};
+ghost use Rattle.log.specs.Answers.{read-verdict, decoded, seconds-left, servers-left, write-verdict, written, log-left};
 ghost use Rattle.exports.specs.Answers.{of-read, of-write, read-answer};
 use crate::Answer;
 use crate::accepted;
 use crate::refused;
+use base::widths::u64_from_u16;
 use log::Header;
 use log::ReadOutcome;
 use log::Written;
@@ -28,17 +27,11 @@ pub extern "C" fn caching_sum(log: &[u8]) -> u32
     log::sum(log)
 }
 
-fn long(x: u16) -> u64
-    ensures { λ r. ⌜ r ≡ x ⌝ }
-{
-    x as u64
-}
-
 fn of_read(outcome: ReadOutcome) -> Answer
     ensures { λ r. ⌜ r ≡ of-read outcome ⌝ }
 {
     match outcome {
-        ReadOutcome::Requests(n) => accepted(long(n), 0),
+        ReadOutcome::Requests(n) => accepted(u64_from_u16(n), 0),
         ReadOutcome::Refused(r) => refused(r),
     }
 }
@@ -46,8 +39,8 @@ fn of_read(outcome: ReadOutcome) -> Answer
 #[no_mangle]
 pub extern "C" fn caching_read(log: &[u8], seconds: &mut [u32], servers: &mut [u16]) -> ReadAnswer
     ensures { λ r. ⌜ r ≡ read-answer (decoded (read-verdict (now (log .entry)) (length (now (seconds .entry))) (length (now (servers .entry)))) (now (log .entry))) ⌝ }
-    ensures { λ _. ⌜ now (seconds .exit) ≡ lent (read-verdict (now (log .entry)) (length (now (seconds .entry))) (length (now (servers .entry)))) (seconds-of (now (log .entry))) (now (seconds .entry)) ⌝ }
-    ensures { λ _. ⌜ now (servers .exit) ≡ lent (read-verdict (now (log .entry)) (length (now (seconds .entry))) (length (now (servers .entry)))) (servers-of (now (log .entry))) (now (servers .entry)) ⌝ }
+    ensures { λ _. ⌜ now (seconds .exit) ≡ seconds-left (now (log .entry)) (now (seconds .entry)) (now (servers .entry)) ⌝ }
+    ensures { λ _. ⌜ now (servers .exit) ≡ servers-left (now (log .entry)) (now (seconds .entry)) (now (servers .entry)) ⌝ }
 {
     let d = log::read(log, seconds, servers);
     let header = d.header;
@@ -76,7 +69,7 @@ pub extern "C" fn caching_write(
     log: &mut [u8],
 ) -> Answer
     ensures { λ r. ⌜ r ≡ of-write (written (write-verdict (contents header (now (seconds .entry)) (now (servers .entry))) (length (now (log .entry)))) (contents header (now (seconds .entry)) (now (servers .entry)))) ⌝ }
-    ensures { λ _. ⌜ now (log .exit) ≡ lent (write-verdict (contents header (now (seconds .entry)) (now (servers .entry))) (length (now (log .entry)))) (encode (contents header (now (seconds .entry)) (now (servers .entry)))) (now (log .entry)) ⌝ }
+    ensures { λ _. ⌜ now (log .exit) ≡ log-left (contents header (now (seconds .entry)) (now (servers .entry))) (now (log .entry)) ⌝ }
 {
     of_write(log::write(header, seconds, servers, log))
 }

@@ -3,7 +3,7 @@
 use mathlib.Core.Bool.{false}
 use mathlib.Core.List.{List, [], _∷_, _++_}
 use mathlib.Core.Logic.{_↔_}
-use mathlib.Core.Path.{_≡_, refl, ap, sym, _∙_}
+use mathlib.Core.Path.{_≡_, refl, ap}
 use Prim.Native.Nat.{ℕ, suc, _-_, _≤_}
 use native.Mathlib.Omega.{arith}
 use borrow.Author.Tests.{ltb-false}
@@ -12,7 +12,7 @@ use Rattle.base.specs.declared.Refusal.{Refusal}
 use Rattle.base.specs.declared.Verdict.{Verdict}
 use Rattle.base.specs.declared.Verdict.the-variants.{Passed, Refused}
 use Rattle.base.specs.Refusals.{Condition, first, short, nth, First}
-use Rattle.base.specs.RefusalLaws.{first-refused, first-passed, first-append, otherwise-passed}
+use Rattle.base.specs.RefusalLaws.{first-refused, first-passed, append-passed}
 use Rattle.base.specs.Lent.{lent}
 use Rattle.base.specs.Lists.{build-length}
 use Rattle.log.specs.declared.Setup.{Setup}
@@ -22,7 +22,8 @@ use Rattle.log.specs.Contents.{Contents, contents-conditions, encode}
 use Rattle.log.specs.Answers.{read-verdict, write-verdict}
 use Rattle.log.specs.AnswerLaws.{read-passed, write-passed}
 use Rattle.log.specs.AcceptedLaws.{seconds-length, servers-length}
-use Rattle.log.specs.EncodeLaws.{Sixteen, encode-length}
+use Rattle.log.specs.Ranges.{Sixteen}
+use Rattle.log.specs.EncodeLaws.{encode-length}
 use Rattle.checker.specs.Answers.{check-conditions, check-verdict-of}
 use Rattle.planner.specs.Answers.{marks-of, rows-of-plan, plan-verdict, least-costs, least-verdict}
 use Rattle.text.specs.Answers.{room-verdict}
@@ -113,7 +114,7 @@ plan-left log marks rows = (
     outputs = short (request-count log) (length marks) ∷ short (length (rows-of-plan log)) (length rows) ∷ []
 
     room : v ≡ Passed → (i : ℕ) → nth outputs i .holds ≡ false
-    room e = first-passed outputs .0 (otherwise-passed (first (log-conditions log)) (first outputs) (sym (first-append (log-conditions log) outputs) ∙ e) .1)
+    room e = first-passed outputs .0 (append-passed (log-conditions log) outputs .0 e .1)
 
 -- the least cost of every prefix
 pub least-decided : (log : List ℕ) (costs : ℕ)
@@ -135,7 +136,7 @@ least-left log costs =
     outputs = short (suc (request-count log)) (length costs) ∷ []
 
     room : least-verdict log (length costs) ≡ Passed → (i : ℕ) → nth outputs i .holds ≡ false
-    room e = first-passed outputs .0 (otherwise-passed (first (log-conditions log)) (first outputs) (sym (first-append (log-conditions log) outputs) ∙ e) .1)
+    room e = first-passed outputs .0 (append-passed (log-conditions log) outputs .0 e .1)
 
 -- the online cache's calls; they are lent nothing
 pub start-decided : (s : Setup) → Decided (setup-conditions s) (start-verdict s)
@@ -168,7 +169,7 @@ sheet-left log text =
     outputs = short (length (sheet-of log)) (length text) ∷ []
 
     room : sheet-verdict log (length text) ≡ Passed → (i : ℕ) → nth outputs i .holds ≡ false
-    room e = first-passed outputs .0 (otherwise-passed (first (log-conditions log)) (first outputs) (sym (first-append (log-conditions log) outputs) ∙ e) .1)
+    room e = first-passed outputs .0 (append-passed (log-conditions log) outputs .0 e .1)
 
 -- the line of a refusal
 pub line-decided : (r : Refusal) (text : ℕ) → Decided (short (length (refusal-text r)) text ∷ []) (room-verdict (refusal-text r) text)

@@ -4,6 +4,7 @@ pub mod Weeks
 pub mod Optimality
 pub mod Calls
 pub mod RoundTrips
+pub mod LogCalls
 pub mod CheckerAccepts
 pub mod Demand3
 pub mod SheetColumns

@@ -7,30 +7,30 @@ use Rattle.base.specs.Bytes.{Are-bytes}
 use Rattle.log.specs.Fields.{request-count}
 use Rattle.log.specs.Conditions.{Accepted}
 use Rattle.log.specs.Contents.{Contents, decode, encode, first-requests, cut}
-use Rattle.log.specs.AcceptedLaws.{Proper, Writable, writable-proper, proper-writable}
-use Rattle.log.specs.EncodeLaws.{Sixteen}
-use Rattle.log.specs.RoundTrip.{decode-encode, encode-accepted, encode-bytes, decode-writable, encode-decode}
+use Rattle.log.specs.Ranges.{Proper, Writable, Sixteen}
+use Rattle.log.specs.AcceptedLaws.{writable-proper}
+use Rattle.log.specs.RoundTrip.{decode-encode, encode-accepted, encode-bytes, decode-proper, encode-decode}
 use Rattle.log.specs.Cutting.{cut-accepted, cut-decodes, cut-bytes, cut-all}
 
 -- the writer takes exactly the headers and lists of requests that are in range
 pub taken-in-range : (c : Contents) → Writable c ↔ Proper c
-taken-in-range c = (writable-proper c, proper-writable c)
+taken-in-range = writable-proper
 
--- a written log is accepted
-pub written-accepted : (c : Contents) → Writable c → Sixteen c → Accepted (encode c)
+-- the log that says what is in range is accepted
+pub written-accepted : (c : Contents) → Proper c → Sixteen c → Accepted (encode c)
 written-accepted = encode-accepted
 
 -- it is made of bytes, as the id is
-pub written-bytes : (c : Contents) → Writable c → Are-bytes (c .header .id) → Are-bytes (encode c)
+pub written-bytes : (c : Contents) → Proper c → Are-bytes (c .header .id) → Are-bytes (encode c)
 written-bytes = encode-bytes
 
 -- it is read back as it was given
-pub written-reads-back : (c : Contents) → Writable c → Sixteen c → decode (encode c) ≡ c
+pub written-reads-back : (c : Contents) → Proper c → Sixteen c → decode (encode c) ≡ c
 written-reads-back = decode-encode
 
--- what an accepted log says can be written
-pub read-taken : (log : List ℕ) → Accepted log → Writable (decode log)
-read-taken = decode-writable
+-- what an accepted log says is in range
+pub read-in-range : (log : List ℕ) → Accepted log → Proper (decode log)
+read-in-range = decode-proper
 
 -- and written again it gives the same bytes
 pub read-writes-back : (log : List ℕ) → Accepted log → Are-bytes log → encode (decode log) ≡ log

@@ -1,4 +1,4 @@
--- Acceptance in plain facts: what a log that is not refused says, and what can be written. Assumes nothing.
+-- What is not refused is in range, and the other way round. Assumes nothing.
 use mathlib.Core.Bool.{Bool, true, false, not}
 use mathlib.Core.List.{List, [], _∷_, _++_}
 use mathlib.Core.Logic.{_≢_, _↔_}
@@ -8,9 +8,10 @@ use native.Mathlib.Omega.{arith}
 use lib.Dec.{leb, ltb, eqb}
 use lib.ListN.{getD, length}
 use borrow.Author.Tests.{ltb-false, leb-false, eqb-false, eqb-true, not-false, le-ltb, lt-leb, eq-eqb, ne-eqb}
-use Rattle.base.specs.Choice.{either, not-both}
+use Rattle.base.specs.Choice.{either}
+use Rattle.base.specs.ChoiceLaws.{either-false, neither-of}
 use Rattle.base.specs.Refusals.{Condition, first, each}
-use Rattle.base.specs.RefusalLaws.{first-failed, first-append, otherwise-passed, each-passed, first-passed}
+use Rattle.base.specs.RefusalLaws.{first-failed, append-passed, each-passed, first-passed}
 use Rattle.base.specs.declared.Verdict.the-variants.{Passed}
 use Rattle.base.specs.Bytes.{byte, le16, le32}
 use Rattle.base.specs.Lists.{build-length, build-at}
@@ -18,55 +19,10 @@ use Rattle.log.specs.declared.Setup.{Setup}
 use Rattle.log.specs.Fields.{version, server-count, setup-of, request-count, requests-offset, id-offset, total-length, written-sum, id-of, length-for, seconds-of, servers-of}
 use Rattle.log.specs.Sum.{sum-of}
 use Rattle.log.specs.Conditions.{setup-conditions, header-conditions, before, request-conditions, log-conditions, verdict-of, Accepted}
-use Rattle.log.specs.Contents.{Contents, setup-in, contents-conditions}
-
--- class, server count and home are in range
-pub record Allowed (s : Setup) : Type 0 where
-  pub class-most : s .«class» ≤ 7
-  pub servers-least : 1 ≤ s .«server_count»
-  pub servers-most : s .«server_count» ≤ 64
-  pub home-below : s .home < s .«server_count»
-
--- request i is in range, and later than the one before
-pub record In-order (count : ℕ) (seconds servers : List ℕ) (i : ℕ) : Type 0 where
-  pub server-below : getD servers i 0 < count
-  pub second-least : 1 ≤ getD seconds i 0
-  pub second-most : getD seconds i 0 ≤ 4000000
-  pub later : before seconds i < getD seconds i 0
-
--- a log that is as the format says
-pub record Sound (s : List ℕ) : Type 0 where
-  pub version-is : version s ≡ 1
-  pub setup : Allowed (setup-of s)
-  pub zero-is : byte s 5 ≡ 0
-  pub requests-most : request-count s ≤ 2048
-  pub requests-at : requests-offset s ≡ 40
-  pub id-at : id-offset s ≡ 24
-  pub total-is : total-length s ≡ length-for (request-count s)
-  pub length-is : length s ≡ length-for (request-count s)
-  pub sum-is : written-sum s ≡ sum-of s
-  pub in-order : (i : ℕ) → i < request-count s → In-order (server-count s) (seconds-of s) (servers-of s) i
-
--- contents that a log can say
-pub record Proper (c : Contents) : Type 0 where
-  pub setup : Allowed (setup-in (c .header))
-  pub requests-most : length (c .seconds) ≤ 2048
-  pub as-many : length (c .servers) ≡ length (c .seconds)
-  pub in-order : (i : ℕ) → i < length (c .seconds) → In-order (c .header .«server_count») (c .seconds) (c .servers) i
-
--- contents that the writer does not refuse
-abbrev pub Writable : Contents → Type 0
-Writable c = first (contents-conditions c) ≡ Passed
+use Rattle.log.specs.Contents.{Contents, contents-conditions}
+use Rattle.log.specs.Ranges.{Allowed, In-order, Sound, Proper, Writable}
 
 -- ---- tests that fail, both ways
-
--- neither of two tests
-either-false : (a b : Bool) → either a b ≡ false → (a ≡ false) × (b ≡ false)
-either-false true b e = absurd (not-both refl e)
-either-false false b e = (refl, e)
-
-false-either : {a b : Bool} → a ≡ false → b ≡ false → either a b ≡ false
-false-either p q = rw p q
 
 -- two numbers are the same
 differ-false : (a b : ℕ) → not (eqb a b) ≡ false → a ≡ b
@@ -82,20 +38,17 @@ range-false x m e =
     let no : x ≢ 0 = eqb-false x 0 p in omega (arith, ltb-false)
 
 false-range : (x m : ℕ) → 1 ≤ x → x ≤ m → either (eqb x 0) (ltb m x) ≡ false
-false-range x m l h = false-either (ne-eqb x 0 (omega arith)) (le-ltb m x h)
+false-range x m l h = neither-of (ne-eqb x 0 (omega arith)) (le-ltb m x h)
 
 -- ---- lists of conditions that pass
 
--- no condition, one more, and two lists
+-- no condition, and one more
 passed-nil : first [] ≡ Passed
 unfolding first
 passed-nil = refl
 
 passed-cons : (c : Condition) (cs : List Condition) → c .holds ≡ false → first cs ≡ Passed → first (c ∷ cs) ≡ Passed
 passed-cons c cs h e = first-failed c cs h ∙ e
-
-passed-append : (xs ys : List Condition) → first xs ≡ Passed → first ys ≡ Passed → first (xs ++ ys) ≡ Passed
-passed-append xs ys p q = first-append xs ys ∙ rw p q
 
 -- ---- the conditions on a setup and on a request, both ways
 
@@ -144,7 +97,7 @@ pub accepted-sound : (s : List ℕ) → Accepted s → Sound s
 unfolding Accepted verdict-of log-conditions header-conditions setup-conditions
 accepted-sound s a =
     let each-request = each (request-conditions (server-count s) (seconds-of s) (servers-of s)) (request-count s) in
-    let (p, q) = otherwise-passed (first (header-conditions s)) (first each-request) (sym (first-append (header-conditions s) each-request) ∙ a) in
+    let (p, q) = append-passed (header-conditions s) each-request .0 a in
     let f = first-passed (header-conditions s) .0 p in
     let (at-requests, at-others) = either-false _ _ (f 7) in
     let (at-id, at-total) = either-false _ _ at-others in
@@ -166,39 +119,41 @@ accepted-sound s a =
 pub sound-accepted : (s : List ℕ) → Sound s → Accepted s
 unfolding Accepted verdict-of log-conditions header-conditions setup-conditions length-for
 sound-accepted s f =
-    passed-append (header-conditions s) _
-    (passed-cons _ _ (le-ltb (length s) 40 (omega (arith, f .length-is)))
-    (passed-cons _ _ (same-false _ _ (f .version-is))
-    (passed-setup _ _ (f .setup)
-    (passed-cons _ _ (same-false _ _ (f .zero-is))
-    (passed-cons _ _ (le-ltb _ _ (f .requests-most))
-    (passed-cons _ _ (false-either (same-false _ _ (f .requests-at)) (false-either (same-false _ _ (f .id-at)) (same-false _ _ (f .total-is))))
-    (passed-cons _ _ (same-false _ _ (f .length-is ∙ sym (f .total-is)))
-    (passed-cons _ _ (same-false _ _ (f .sum-is)) passed-nil))))))))
-    (passed-in-order _ _ _ _ (f .in-order))
+    append-passed (header-conditions s) _ .1 (
+      passed-cons _ _ (le-ltb (length s) 40 (omega (arith, f .length-is)))
+          (passed-cons _ _ (same-false _ _ (f .version-is))
+          (passed-setup _ _ (f .setup)
+          (passed-cons _ _ (same-false _ _ (f .zero-is))
+          (passed-cons _ _ (le-ltb _ _ (f .requests-most))
+          (passed-cons _ _ (neither-of (same-false _ _ (f .requests-at)) (neither-of (same-false _ _ (f .id-at)) (same-false _ _ (f .total-is))))
+          (passed-cons _ _ (same-false _ _ (f .length-is ∙ sym (f .total-is)))
+          (passed-cons _ _ (same-false _ _ (f .sum-is)) passed-nil))))))),
+      passed-in-order _ _ _ _ (f .in-order),
+    )
 
 -- ---- the contents
 
--- contents that the writer does not refuse are proper
-pub writable-proper : (c : Contents) → Writable c → Proper c
+-- the writer refuses all contents but proper ones
+pub writable-proper : (c : Contents) → Writable c ↔ Proper c
 unfolding contents-conditions setup-conditions
-writable-proper c w =
-    let f = first-passed (contents-conditions c) .0 w in
-    let (few, as-many) = either-false _ _ (f 3) in
-    record {
-      setup = allowed _ (f 0) (f 1) (f 2);
-      requests-most = ltb-false _ _ few;
-      as-many = sym (differ-false _ _ as-many);
-      in-order = in-order-of _ _ _ _ (first-passed _ .1 (λ i. f (suc (suc (suc (suc i))))));
-    }
+writable-proper c = (to, from)
+  where
+    to : Writable c → Proper c
+    to w =
+        let f = first-passed (contents-conditions c) .0 w in
+        let (few, as-many) = either-false _ _ (f 3) in
+        record {
+          setup = allowed _ (f 0) (f 1) (f 2);
+          requests-most = ltb-false _ _ few;
+          as-many = sym (differ-false _ _ as-many);
+          in-order = in-order-of _ _ _ _ (first-passed _ .1 (λ i. f (suc (suc (suc (suc i))))));
+        }
 
--- proper contents are not refused
-pub proper-writable : (c : Contents) → Proper c → Writable c
-unfolding contents-conditions setup-conditions
-proper-writable c f =
-    passed-setup _ _ (f .setup)
-    (passed-cons _ _ (false-either (le-ltb _ _ (f .requests-most)) (same-false _ _ (sym (f .as-many))))
-    (passed-in-order _ _ _ _ (f .in-order)))
+    from : Proper c → Writable c
+    from f =
+        passed-setup _ _ (f .setup)
+        (passed-cons _ _ (neither-of (le-ltb _ _ (f .requests-most)) (same-false _ _ (sym (f .as-many))))
+        (passed-in-order _ _ _ _ (f .in-order)))
 
 -- ---- the lists that are read from a log
 

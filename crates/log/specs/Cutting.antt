@@ -12,9 +12,10 @@ use Rattle.base.specs.Lists.{build-at}
 use Rattle.log.specs.Fields.{request-count, id-of, seconds-of, servers-of, header-of}
 use Rattle.log.specs.Conditions.{before, Accepted}
 use Rattle.log.specs.Contents.{Contents, decode, encode, first-requests, cut}
-use Rattle.log.specs.AcceptedLaws.{Proper, Writable, writable-proper, proper-writable, seconds-length, servers-length, id-length}
-use Rattle.log.specs.EncodeLaws.{Sixteen, encode-count}
-use Rattle.log.specs.RoundTrip.{decode-encode, encode-accepted, encode-decode, decode-sixteen, decode-writable, encode-bytes}
+use Rattle.log.specs.Ranges.{Proper, Sixteen}
+use Rattle.log.specs.AcceptedLaws.{seconds-length, servers-length, id-length}
+use Rattle.log.specs.EncodeLaws.{encode-count}
+use Rattle.log.specs.RoundTrip.{decode-encode, encode-accepted, encode-decode, decode-sixteen, decode-proper, encode-bytes}
 
 -- the second before one of the first k requests is among the first k
 before-take : (k : ℕ) (seconds : List ℕ) (i : ℕ) → i < k → before (take k seconds) i ≡ before seconds i
@@ -22,7 +23,7 @@ unfolding before
 before-take k seconds zero h = refl
 before-take k seconds (suc i) h = getD-take k seconds i 0 (omega arith)
 
--- the first k requests of what can be written can be written
+-- the first k requests of proper contents are proper
 first-proper : (k : ℕ) (c : Contents) → k ≤ length (c .seconds) → Proper c → Proper (first-requests k c)
 unfolding first-requests
 first-proper k c h f = record {
@@ -42,13 +43,10 @@ first-proper k c h f = record {
 
 -- an accepted log s, and k of its requests
 module _ (s : List ℕ) (k : ℕ) (a : Accepted s) (h : k ≤ request-count s) where
-  -- the first k can be written
+  -- the first k are proper
   cut-proper : Proper (first-requests k (decode s))
   unfolding decode
-  cut-proper = first-proper k (decode s) (rw (seconds-length s) h) (writable-proper (decode s) (decode-writable s a))
-
-  cut-writable : Writable (first-requests k (decode s))
-  cut-writable = proper-writable _ cut-proper
+  cut-proper = first-proper k (decode s) (rw (seconds-length s) h) (decode-proper s a)
 
   cut-sixteen : Sixteen (first-requests k (decode s))
   unfolding first-requests
@@ -57,12 +55,12 @@ module _ (s : List ℕ) (k : ℕ) (a : Accepted s) (h : k ≤ request-count s) w
   -- a cut log is accepted
   pub cut-accepted : Accepted (cut k s)
   unfolding cut
-  cut-accepted = encode-accepted _ cut-writable cut-sixteen
+  cut-accepted = encode-accepted _ cut-proper cut-sixteen
 
   -- it says the first k requests, with the same header
   pub cut-decodes : decode (cut k s) ≡ first-requests k (decode s)
   unfolding cut
-  cut-decodes = decode-encode _ cut-writable cut-sixteen
+  cut-decodes = decode-encode _ cut-proper cut-sixteen
 
   -- it has k requests
   pub cut-count : request-count (cut k s) ≡ k
@@ -83,7 +81,7 @@ id-bytes s b i = go (le-or-lt 16 i)
 -- a cut log of bytes is of bytes
 pub cut-bytes : (s : List ℕ) (k : ℕ) → Accepted s → k ≤ request-count s → Are-bytes s → Are-bytes (cut k s)
 unfolding cut first-requests decode header-of
-cut-bytes s k a h b = encode-bytes _ (cut-writable s k a h) (id-bytes s b)
+cut-bytes s k a h b = encode-bytes _ (cut-proper s k a h) (id-bytes s b)
 
 -- all requests of a log are those it says
 first-all : (s : List ℕ) → first-requests (request-count s) (decode s) ≡ decode s

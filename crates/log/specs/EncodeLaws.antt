@@ -13,11 +13,7 @@ use Rattle.base.specs.Lists.{build, build-same, build-read}
 use Rattle.log.specs.Fields.{version, class-of, server-count, home-of, request-count, requests-offset, id-offset, total-length, written-sum, id-of, length-for, seconds-of, servers-of, header-of}
 use Rattle.log.specs.Sum.{sum-from, sum-of}
 use Rattle.log.specs.Contents.{Contents, head, request-bytes, requests-bytes, body, encode}
-use Rattle.log.specs.AcceptedLaws.{Proper}
-
--- the id has sixteen elements
-abbrev pub Sixteen : Contents → Type 0
-Sixteen c = length (c .header .id) ≡ 16
+use Rattle.log.specs.Ranges.{Proper, Sixteen}
 
 -- ---- the parts of a written log
 

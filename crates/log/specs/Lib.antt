@@ -1,13 +1,16 @@
--- The log: what 01's 'The log' and its conditions 1 to 13 say, and the theorems about it.
+-- The log.
+-- What a reader believes: what 01's 'The log' and its conditions 1 to 13 say, and what the calls answer.
 pub mod Sizes
 pub mod Fields
 pub mod Sum
-pub mod SumLaws
 pub mod Conditions
-pub mod ConditionLaws
 pub mod Contents
-pub mod ContentsLaws
+pub mod Ranges
 pub mod Answers
+-- What is proved of it.
+pub mod SumLaws
+pub mod ConditionLaws
+pub mod ContentsLaws
 pub mod AcceptedLaws
 pub mod EncodeLaws
 pub mod RoundTrip

@@ -13,23 +13,21 @@ use Rattle.log.specs.Fields.{version, class-of, server-count, home-of, r
 use Rattle.log.specs.Sum.{sum-of}
 use Rattle.log.specs.Conditions.{Accepted}
 use Rattle.log.specs.Contents.{Contents, decode, head, request-bytes, requests-bytes, body, setup-in, encode}
-use Rattle.log.specs.AcceptedLaws.{Allowed, Sound, Writable, accepted-sound, sound-accepted, writable-proper, proper-writable, seconds-length, servers-length, second-at, server-at, id-length}
-use Rattle.log.specs.EncodeLaws.{Sixteen, encode-length, encode-version, encode-class, encode-server-count, encode-home, encode-zero, encode-requests-offset, encode-id-offset, encode-total, encode-written-sum, encode-sum, encode-count, encode-header, encode-seconds, encode-servers}
+use Rattle.log.specs.Ranges.{Allowed, Sound, Proper, Sixteen}
+use Rattle.log.specs.AcceptedLaws.{accepted-sound, sound-accepted, seconds-length, servers-length, second-at, server-at, id-length}
+use Rattle.log.specs.EncodeLaws.{encode-length, encode-version, encode-class, encode-server-count, encode-home, encode-zero, encode-requests-offset, encode-id-offset, encode-total, encode-written-sum, encode-sum, encode-count, encode-header, encode-seconds, encode-servers}
 
 -- ---- writing, then reading
 
 -- what is written is read back
-pub decode-encode : (c : Contents) → Writable c → Sixteen c → decode (encode c) ≡ c
+pub decode-encode : (c : Contents) → Proper c → Sixteen c → decode (encode c) ≡ c
 unfolding decode
-decode-encode c w h =
-    let f = writable-proper c w in
-    rw (encode-header c h, encode-seconds c h f, encode-servers c h f)
+decode-encode c f h = rw (encode-header c h, encode-seconds c h f, encode-servers c h f)
 
 -- what is written is accepted
-pub encode-accepted : (c : Contents) → Writable c → Sixteen c → Accepted (encode c)
+pub encode-accepted : (c : Contents) → Proper c → Sixteen c → Accepted (encode c)
 unfolding length-for
-encode-accepted c w h =
-    let f = writable-proper c w in
+encode-accepted c f h =
     let count = encode-count c (omega (arith, f .requests-most)) in
     let total = encode-total c (omega (arith, f .requests-most)) in
     sound-accepted (encode c) (record {
@@ -52,17 +50,17 @@ pub decode-sixteen : (s : List ℕ) → Sixteen (decode s)
 unfolding decode header-of
 decode-sixteen s = id-length s
 
--- what was read from an accepted log can be written
-pub decode-writable : (s : List ℕ) → Accepted s → Writable (decode s)
+-- what was read from an accepted log is proper
+pub decode-proper : (s : List ℕ) → Accepted s → Proper (decode s)
 unfolding decode header-of
-decode-writable s a =
+decode-proper s a =
     let f = accepted-sound s a in
-    proper-writable (decode s) (record {
+    record {
       setup = f .setup;
       requests-most = rw (seconds-length s) (f .requests-most);
       as-many = servers-length s ∙ sym (seconds-length s);
       in-order = rw (seconds-length s) (f .in-order);
-    })
+    }
 
 -- a sound log of bytes, part by part
 module _ (s : List ℕ) (f : Sound s) (b : Are-bytes s) where
@@ -187,8 +185,8 @@ head-is h n f =
     (joined (number 2 n) (joined (number 4 40) (joined (number 4 24) (number 4 (length-for n)))))))))
 
 -- what is written are bytes, if the id is
-pub encode-bytes : (c : Contents) → Writable c → Are-bytes (c .header .id) → Are-bytes (encode c)
+pub encode-bytes : (c : Contents) → Proper c → Are-bytes (c .header .id) → Are-bytes (encode c)
 unfolding encode body
-encode-bytes c w b =
-    bytes-at (joined (head-is (c .header) (length (c .seconds)) (writable-proper c w .setup))
+encode-bytes c f b =
+    bytes-at (joined (head-is (c .header) (length (c .seconds)) (f .setup))
     (joined (number 4 _) (joined (bytes-of (c .header .id) b) (requests-are (c .seconds) (c .servers) (length (c .seconds))))))

@@ -1,16 +1,17 @@
 -- The conditions of a list of numbers as a schedule, in 01's order (14 to 18), and what the checker answers. Assumes nothing.
-use mathlib.Core.Bool.{Bool, not}
+use mathlib.Core.Bool.{Bool, true, not}
 use mathlib.Core.List.{List, [], _∷_, _++_}
-use Prim.Native.Nat.{ℕ, suc, pred, _*_, _/_, _%_}
+use mathlib.Core.Path.{_≡_}
+use Prim.Native.Nat.{ℕ, suc, pred, _*_, _/_, _%_, _≤_, _<_}
 use lib.Dec.{ltb, eqb}
 use lib.ListN.{getD, length}
 use Rattle.base.specs.Choice.{both, either}
 use Rattle.base.specs.Refusals.{Condition, refuse, each}
 use Rattle.prices.specs.declared.Prices.{Prices}
 use Rattle.model.specs.Requests.{Requests}
-use Rattle.model.specs.Schedule.{Row, hold, move, transfer, cost-of}
+use Rattle.model.specs.Schedule.{Row, hold, move, transfer, Feasible, cost-of}
 use Rattle.model.specs.Standing.{stands}
-use Rattle.model.specs.RowForm.{row-at, rows-of, fits, follows}
+use Rattle.model.specs.RowForm.{row-at, rows-of, fits, follows, well-formed}
 
 -- the number of rows of a list of numbers, four for each
 unfoldable pub row-count : List ℕ → ℕ
@@ -54,3 +55,10 @@ schedule-conditions count q n ns =
 -- the cost that the checker answers where none holds
 unfoldable pub check-cost : Prices → List ℕ → ℕ
 check-cost p ns = cost-of p (rows-of ns)
+
+-- the rows of numbers are accepted: four for each, of kind 0 or 1, well formed and feasible
+pub record Accepted (count : ℕ) (q : Requests) (n : ℕ) (ns : List ℕ) : Type 0 where
+  pub whole : length ns % 4 ≡ 0
+  pub kinds : (i : ℕ) → i < row-count ns → getD ns (4 * i) 0 ≤ 1
+  pub shaped : well-formed count n (q .time n) (rows-of ns) ≡ true
+  pub feasible : Feasible q n (rows-of ns)

@@ -11,7 +11,7 @@ use borrow.Author.Tests.{ltb-false, eqb-true, eqb-false, lt-ltb, le-ltb, ne-eqb,
 use Rattle.base.specs.declared.Verdict.the-variants.{Passed}
 use Rattle.base.specs.Choice.{either}
 use Rattle.base.specs.Refusals.{Condition, refuse, first, each, nth}
-use Rattle.base.specs.RefusalLaws.{first-failed, first-append, otherwise-passed, each-passed, first-passed}
+use Rattle.base.specs.RefusalLaws.{first-failed, append-passed, each-passed, first-passed}
 use Rattle.prices.specs.declared.Prices.{Prices}
 use Rattle.base.specs.ChoiceLaws.{either-false}
 use Rattle.model.specs.Requests.{Requests}
@@ -21,7 +21,7 @@ use Rattle.model.specs.StandingLaws.{stands-sound, stands-complete}
 use Rattle.model.specs.RowForm.{flat, row-at, rows-of, fits, follows, well-formed}
 use Rattle.model.specs.RowLaws.{fits-move, row-member, member-row, Formed, formed, well-formed-of, ordered-follows, follows-ordered}
 use Rattle.model.specs.FlatLaws.{rows-of-flat, flat-length, flat-kinds}
-use Rattle.model.specs.Checking.{row-count, misfits, misplaced, row-conditions, backed, copy-condition, serve-condition, schedule-conditions, check-cost}
+use Rattle.model.specs.Checking.{row-count, misfits, misplaced, row-conditions, backed, copy-condition, serve-condition, schedule-conditions, check-cost, Accepted}
 
 -- ---- what each condition's failing says
 
@@ -60,13 +60,6 @@ alone-passed : (number place : ℕ) (b : Bool) → b ≡ false → first (refuse
 unfolding first
 alone-passed number place b e = rw e
 
--- two lists of conditions pass if and only if their join does
-parted : (a b : List Condition) → first (a ++ b) ≡ Passed → (first a ≡ Passed) × (first b ≡ Passed)
-parted a b e = otherwise-passed (first a) (first b) (sym (first-append a b) ∙ e)
-
-joined : (a b : List Condition) → first a ≡ Passed → first b ≡ Passed → first (a ++ b) ≡ Passed
-joined a b p q = first-append a b ∙ rw p q
-
 -- ---- all conditions fail
 
 -- what all of them say
@@ -104,10 +97,10 @@ module _ (count : ℕ) (q : Requests) (n : ℕ) (ns : List ℕ) where
       four = first-passed (schedule-conditions count q n ns) .0 e 0
 
       rows : (first of-rows ≡ Passed) × (first (of-copies ++ of-requests) ≡ Passed)
-      rows = parted of-rows (of-copies ++ of-requests) (sym (first-failed _ _ four) ∙ e)
+      rows = append-passed of-rows (of-copies ++ of-requests) .0 (sym (first-failed _ _ four) ∙ e)
 
       rest : (first of-copies ≡ Passed) × (first of-requests ≡ Passed)
-      rest = parted of-copies of-requests (rows .1)
+      rest = append-passed of-copies of-requests .0 (rows .1)
 
       row : (i : ℕ) → i < row-count ns → (j : ℕ) → nth (row-conditions count q n ns i) j .holds ≡ false
       row i l = first-passed (row-conditions count q n ns i) .0 (each-passed (row-conditions count q n ns) (row-count ns) .0 (rows .0) i l)
@@ -116,9 +109,13 @@ module _ (count : ℕ) (q : Requests) (n : ℕ) (ns : List ℕ) where
   unfolding schedule-conditions row-conditions copy-condition serve-condition
   clear-passed c =
       first-failed (refuse 14 0 (not (eqb (length ns % 4) 0))) _ (rw (c .whole))
-      ∙ joined of-rows (of-copies ++ of-requests) (each-passed (row-conditions count q n ns) (row-count ns) .1 row)
-      (joined of-copies of-requests (each-passed _ _ .1 (λ i l. alone-passed 17 (suc i) _ (ap not (c .backed-at i l))))
-      (each-passed _ _ .1 (λ i l. alone-passed 18 (suc i) _ (ap not (c .served-at i l)))))
+      ∙ append-passed of-rows (of-copies ++ of-requests) .1 (
+        each-passed (row-conditions count q n ns) (row-count ns) .1 row,
+        append-passed of-copies of-requests .1 (
+          each-passed _ _ .1 (λ i l. alone-passed 17 (suc i) _ (ap not (c .backed-at i l))),
+          each-passed _ _ .1 (λ i l. alone-passed 18 (suc i) _ (ap not (c .served-at i l))),
+        ),
+      )
     where
       row : (i : ℕ) → i < row-count ns → first (row-conditions count q n ns i) ≡ Passed
       row i l =
@@ -126,13 +123,6 @@ module _ (count : ℕ) (q : Requests) (n : ℕ) (ns : List ℕ) where
           ∙ alone-passed 16 (suc i) (misplaced ns i) (placed-not ns i (λ j e. c .placed-at j (omega arith)))
 
 -- ---- what the conditions say of the rows
-
--- the rows of numbers are accepted: four for each, of kind 0 or 1, well formed and feasible
-pub record Accepted (count : ℕ) (q : Requests) (n : ℕ) (ns : List ℕ) : Type 0 where
-  pub whole : length ns % 4 ≡ 0
-  pub kinds : (i : ℕ) → i < row-count ns → getD ns (4 * i) 0 ≤ 1
-  pub shaped : well-formed count n (q .time n) (rows-of ns) ≡ true
-  pub feasible : Feasible q n (rows-of ns)
 
 -- the targets of well-formed rows are below the count
 pub targets : (count n last : ℕ) (rows : List Row) → Formed count n last rows

@@ -10,7 +10,8 @@ use Rattle.base.specs.ChoiceLaws.{either-false}
 use Rattle.base.specs.RefusalLaws.{first-passed}
 use Rattle.base.specs.declared.Verdict.the-variants.{Passed}
 use Rattle.log.specs.declared.Setup.{Setup}
-use Rattle.log.specs.AcceptedLaws.{Allowed, setup-allowed}
+use Rattle.log.specs.Ranges.{Allowed}
+use Rattle.log.specs.AcceptedLaws.{setup-allowed}
 use Rattle.online.specs.declared.Cache.{Cache}
 use Rattle.online.specs.Conditions.{scan-conditions}
 use Rattle.online.specs.Answers.{start-verdict, scan-verdict}

@@ -10,14 +10,14 @@ use crate::Cache;
 use crate::state::Outline;
 use crate::state::copy_at;
 use crate::state::expiry;
-use crate::state::half;
 use crate::state::outline_of;
-use crate::state::size;
 use crate::state::use_at;
-use crate::state::wide;
 use base::Verdict;
 use base::refusals::or_else;
 use base::sets::has;
+use base::widths::size_from_u16;
+use base::widths::u16_from_u8;
+use base::widths::u64_from_u32;
 
 // A number is 0, or above the most that is allowed.
 fn outside(x: u32, most: u32) -> bool
@@ -50,7 +50,7 @@ fn server_broken(o: Outline, used: u32, y: u16) -> bool
         if y == o.last {
             return false;
         }
-        return expiry(used, o.window) < wide(o.second);
+        return expiry(used, o.window) < u64_from_u32(o.second);
     }
     used != 0
 }
@@ -63,7 +63,7 @@ fn servers_broken(cache: Cache) -> bool
     let last_use = cache.last_use;
     let mut y: u16 = 0;
     while y < 64 {
-        let at = size(y);
+        let at = size_from_u16(y);
         if server_broken(o, last_use[at], y) {
             return true;
         }
@@ -86,7 +86,7 @@ fn broken(cache: Cache) -> bool
     if 4000000 < cache.second {
         return true;
     }
-    if half(cache.server_count) <= last {
+    if u16_from_u8(cache.server_count) <= last {
         return true;
     }
     if !copy_at(cache, last) {
@@ -111,7 +111,12 @@ fn broken(cache: Cache) -> bool
 pub fn scan_fault(cache: Cache, second: u32, server: u16) -> Verdict
     ensures { λ r. ⌜ r ≡ scan-verdict cache second server ⌝ }
 {
-    let v = or_else(Verdict::Passed, half(cache.server_count) <= server, 11, 0);
+    let v = or_else(
+        Verdict::Passed,
+        u16_from_u8(cache.server_count) <= server,
+        11,
+        0,
+    );
     let v = or_else(v, outside(second, 4000000), 12, 0);
     let v = or_else(v, broken(cache), 32, 0);
     let v = or_else(v, cache.closed, 33, 0);

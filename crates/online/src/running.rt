@@ -6,15 +6,15 @@ ghost use Rattle.online.specs.Answers.{running-answer};
 use crate::Cache;
 use crate::RunningCost;
 use crate::conditions::state_fault;
-use crate::state::wide;
 use base::Verdict;
+use base::widths::u64_from_u32;
 use prices::of_class;
 
 // A price, paid a number of times.
 fn times(price: u32, n: u32) -> u64
     ensures { λ r. ⌜ r ≡ price * n ⌝ }
 {
-    wide(price) * wide(n)
+    u64_from_u32(price) * u64_from_u32(n)
 }
 
 // All holding up to the last request, and all transfers.

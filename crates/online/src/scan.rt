@@ -17,14 +17,14 @@ use crate::running::running_cost;
 use crate::state::Outline;
 use crate::state::expiry;
 use crate::state::outline_of;
-use crate::state::size;
 use crate::state::use_at;
-use crate::state::wide;
 use base::Verdict;
 use base::sets::cut;
 use base::sets::has;
 use base::sets::lowest;
 use base::sets::put;
+use base::widths::size_from_u16;
+use base::widths::u64_from_u32;
 
 // A request while it is served: its second and server, and whether it is K.
 struct Served {
@@ -47,7 +47,7 @@ fn minus(a: u32, b: u32) -> u32
 fn until(second: u32, used: u32, window: u32) -> u32
     ensures { λ r. ⌜ r ≡ min second (used + window) ⌝ }
 {
-    if wide(second) <= expiry(used, window) {
+    if u64_from_u32(second) <= expiry(used, window) {
         return second;
     }
     used + window
@@ -58,7 +58,7 @@ fn lasts(o: Outline, used: u32, second: u32, y: u16) -> bool
     ensures { λ r. ⌜ With-use o used y (λ c. r ≡ lasts c second y) ⌝ }
 {
     if has(o.holders, y) {
-        return wide(second) <= expiry(used, o.window);
+        return u64_from_u32(second) <= expiry(used, o.window);
     }
     false
 }
@@ -165,7 +165,7 @@ fn accept(cache: Cache, o: Outline, q: Served) -> Cache
     let mut held: u32 = 0;
     while left != 0 {
         let y = member(left);
-        let at = size(y);
+        let at = size_from_u16(y);
         let used = before[at];
         last_use[at] = next_use(o, q, used, y);
         holders = put_if(holders, stands(o, q, used, y), y);

@@ -5,9 +5,9 @@ ghost use Rattle.online.specs.Answers.{started};
 use crate::Cache;
 use crate::StartOutcome;
 use crate::Started;
-use crate::state::half;
 use base::Verdict;
 use base::sets::put;
+use base::widths::u16_from_u8;
 use log::Setup;
 use log::setup_fault;
 
@@ -15,7 +15,7 @@ use log::setup_fault;
 fn fresh(setup: Setup) -> Cache
     ensures { λ r. ⌜ r ≡ fresh setup ⌝ }
 {
-    let last = half(setup.home);
+    let last = u16_from_u8(setup.home);
     Cache {
         class: setup.class,
         server_count: setup.server_count,

@@ -1,10 +1,12 @@
 // What a state says of its class and of each server. A server from 64 on has no copy and no last use.
 ghost use mathlib.Core.Path.{_≡_};
-ghost use Prim.Native.Nat.{_+_, _<_, _^_};
+ghost use Prim.Native.Nat.{_+_};
 ghost use Rattle.online.specs.Rules.{window-of, copy-at, use-at};
 ghost use Rattle.online.specs.Serving.{Outlines};
 use crate::Cache;
 use base::sets::has;
+use base::widths::u16_from_u8;
+use base::widths::u64_from_u32;
 use prices::of_class;
 use prices::window;
 
@@ -15,27 +17,6 @@ pub struct Outline {
     pub second: u32,
     pub holders: u64,
     pub window: u32,
-}
-
-// A number of 32 bits, as a wider one.
-pub fn wide(x: u32) -> u64
-    ensures { λ r. ⌜ (r ≡ x) × (r < 2 ^ 32) ⌝ }
-{
-    x as u64
-}
-
-// A byte, as a wider number.
-pub fn half(x: u8) -> u16
-    ensures { λ r. ⌜ (r ≡ x) × (r < 256) ⌝ }
-{
-    x as u16
-}
-
-// A server's number, as an index.
-pub fn size(x: u16) -> usize
-    ensures { λ r. ⌜ r ≡ x ⌝ }
-{
-    x as usize
 }
 
 // The window of the state's class.
@@ -50,7 +31,7 @@ pub(crate) fn outline_of(cache: Cache) -> Outline
     ensures { λ r. ⌜ Outlines cache r ⌝ }
 {
     Outline {
-        server_count: half(cache.server_count),
+        server_count: u16_from_u8(cache.server_count),
         last: cache.last,
         second: cache.second,
         holders: cache.holders,
@@ -80,5 +61,5 @@ pub fn use_at(cache: Cache, y: u16) -> u32
 pub fn expiry(used: u32, window: u32) -> u64
     ensures { λ r. ⌜ r ≡ used + window ⌝ }
 {
-    wide(used) + wide(window)
+    u64_from_u32(used) + u64_from_u32(window)
 }

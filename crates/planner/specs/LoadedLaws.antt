@@ -15,7 +15,8 @@ use Rattle.prices.specs.PriceLaws.{class-in-range}
 use Rattle.log.specs.Fields.{class-of, request-count, servers-of, header-of}
 use Rattle.log.specs.Conditions.{verdict-of, Accepted}
 use Rattle.log.specs.Answers.{decoded}
-use Rattle.log.specs.AcceptedLaws.{Sound, accepted-sound, servers-length}
+use Rattle.log.specs.Ranges.{Sound}
+use Rattle.log.specs.AcceptedLaws.{accepted-sound, servers-length}
 use Rattle.log.specs.declared.Decoded.{Decoded}
 use Rattle.log.specs.declared.ReadOutcome.the-variants as read
 use Rattle.base.specs.declared.Refusal.{Refusal}

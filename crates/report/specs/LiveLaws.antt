@@ -13,6 +13,7 @@ use Rattle.base.specs.declared.Verdict.{Verdict}
 use Rattle.base.specs.declared.Verdict.the-variants.{Passed}
 use Rattle.log.specs.Fields.{setup-of, request-count, seconds-of, servers-of}
 use Rattle.log.specs.Conditions.{Accepted}
+use Rattle.log.specs.Ranges as ranges
 use Rattle.log.specs.AcceptedLaws as accepted
 use Rattle.model.specs.Requests.{Requests, requests}
 use Rattle.model.specs.LogRequests.{requests-in}
@@ -90,7 +91,7 @@ scan-passes c second server a b d s e f g =
 
 module _ (log : List ℕ) (a : Accepted log) where
   -- what the log has
-  abbrev facts : accepted.Sound log
+  abbrev facts : ranges.Sound log
   facts = accepted.accepted-sound log a
 
   abbrev q : Requests

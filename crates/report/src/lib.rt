@@ -2,7 +2,6 @@
 mod lines;
 mod live;
 mod sheets;
-mod widths;
 
 use log::LOG_ROOM;
 use log::MOST_REQUESTS;

@@ -7,9 +7,9 @@ ghost use Rattle.text.specs.Page.{page, added};
 ghost use Rattle.report.specs.Sizes.{entry-room, sheet-room};
 ghost use Rattle.report.specs.Text.{heading, entry-line, entry-lines, last-line, sheet-text, columns, entry-of};
 use crate::Entry;
-use crate::widths::from_size;
-use crate::widths::from16;
-use crate::widths::from32;
+use base::widths::u64_from_size;
+use base::widths::u64_from_u16;
+use base::widths::u64_from_u32;
 use text::put::put;
 use text::put::put_byte;
 use text::put::put_field;
@@ -61,9 +61,9 @@ fn entry_at(
     ensures { λ r. ⌜ r ≡ entry-of (columns (now (seconds .entry)) (now (servers .entry)) (now (plan .entry)) (now (live .entry)) (now (least .entry)) (now (costs .entry))) i ⌝ }
 {
     Entry {
-        number: from_size(i + 1),
-        second: from32(seconds[i]),
-        server: from16(servers[i]),
+        number: u64_from_size(i + 1),
+        second: u64_from_u32(seconds[i]),
+        server: u64_from_u16(servers[i]),
         plan: plan[i],
         live: live[i],
         least: least[i + 1],

@@ -18,9 +18,9 @@ use crate::SHEET_ROOM;
 use crate::lines::put_lines;
 use crate::live::give_live;
 use crate::live::open;
-use crate::widths::from32;
-use crate::widths::size;
 use base::Verdict;
+use base::widths::size_from_u16;
+use base::widths::u64_from_u32;
 use log::Decoded;
 use log::MOST_REQUESTS;
 use log::ReadOutcome;
@@ -46,7 +46,7 @@ fn request_count(outcome: ReadOutcome) -> usize
     ensures { λ r. ⌜ r ≡ requests-read outcome ⌝ }
 {
     match outcome {
-        ReadOutcome::Requests(n) => size(n),
+        ReadOutcome::Requests(n) => size_from_u16(n),
         ReadOutcome::Refused(_) => 0,
     }
 }
@@ -56,7 +56,7 @@ fn row_count(planned: Planned) -> u64
     ensures { λ r. ⌜ r ≡ rows-planned planned ⌝ }
 {
     match planned {
-        Planned::Plan { cost: _, rows } => from32(rows),
+        Planned::Plan { cost: _, rows } => u64_from_u32(rows),
         Planned::Refused(_) => 0,
     }
 }

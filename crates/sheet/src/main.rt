@@ -6,6 +6,7 @@ ghost use Rattle.report.specs.Sizes.{sheet-room};
 ghost use Rattle.report.specs.Output.{output, limit};
 ghost use Rattle.text.specs.RefusalText.{refusal-text, refusal-room};
 use base::Refusal;
+use base::widths::size_from_u64;
 use libc::STDIN_FILENO;
 use libc::STDOUT_FILENO;
 use report::LIMIT;
@@ -28,12 +29,6 @@ fn room() -> [u8; SHEET_ROOM]
     [0u8; SHEET_ROOM]
 }
 
-fn size(n: u64) -> usize
-    ensures { λ r. ⌜ r ≡ n ⌝ }
-{
-    n as usize
-}
-
 // The line of a refusal, and its length. It always fits.
 fn refuse(refusal: Refusal, text: &mut [u8]) -> usize
     requires { ⌜ refusal-room ≤ length (now text) ⌝ }
@@ -41,7 +36,7 @@ fn refuse(refusal: Refusal, text: &mut [u8]) -> usize
 {
     let printed = refusal_line(refusal, text);
     match printed {
-        Printed::Length(n) => size(n),
+        Printed::Length(n) => size_from_u64(n),
         Printed::Refused(_) => 0,
     }
 }
@@ -53,7 +48,7 @@ fn answer(log: &[u8], text: &mut [u8]) -> usize
 {
     let printed = sheet(log, text);
     match printed {
-        Printed::Length(n) => size(n),
+        Printed::Length(n) => size_from_u64(n),
         Printed::Refused(r) => refuse(r, text),
     }
 }

@@ -4,10 +4,10 @@ ghost use lib.ListN.{length};
 ghost use Rattle.base.specs.Lent.{lent};
 ghost use Rattle.text.specs.Answers.{room-verdict, printed};
 use crate::Printed;
-use crate::widths::from_size;
 use base::Refusal;
 use base::bytes::clear8;
 use base::bytes::copy;
+use base::widths::u64_from_size;
 
 // The text and zeros after it, or 31 where it does not fit.
 pub fn give(from: &[u8], text: &mut [u8]) -> Printed
@@ -18,10 +18,10 @@ pub fn give(from: &[u8], text: &mut [u8]) -> Printed
     if text.len() < n {
         return Printed::Refused(Refusal {
             number: 31,
-            place: from_size(n),
+            place: u64_from_size(n),
         });
     }
     copy(text, 0, from);
     clear8(text, n);
-    Printed::Length(from_size(n))
+    Printed::Length(u64_from_size(n))
 }

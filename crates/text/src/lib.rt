@@ -2,7 +2,6 @@
 pub mod give;
 pub mod put;
 mod refusal;
-mod widths;
 
 use base::Refusal;
 pub use refusal::refusal_line;

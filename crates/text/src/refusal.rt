@@ -12,8 +12,8 @@ use crate::give::give;
 use crate::put::put;
 use crate::put::put_byte;
 use crate::put::put_field;
-use crate::widths::from8;
 use base::Refusal;
+use base::widths::u64_from_u8;
 
 // The name of the list that a refusal's number is in.
 fn put_list(text: &mut [u8], at: usize, number: u8) -> usize
@@ -33,7 +33,7 @@ fn put_refusal(refusal: Refusal, text: &mut [u8]) -> usize
 {
     let a = put(text, 0, b"refused ");
     let b = put_list(text, a, refusal.number);
-    let c = put_field(text, b, from8(refusal.number));
+    let c = put_field(text, b, u64_from_u8(refusal.number));
     let d = put(text, c, b" place");
     let e = put_field(text, d, refusal.place);
     put_byte(text, e, b'\n')

@@ -3,11 +3,11 @@ use borrow.Author.Needs.{needs}
 use Rattle.exports.proofs.refused.Statement.{statement}
 use Rattle.exports.proofs.refused.Tie as tie
 
-word-requires : tie.Need-word-requires
-word-requires c κs = search needs
+u32-from-u8-requires : tie.Need-u32-from-u8-requires
+u32-from-u8-requires c κs = search needs
 
 returns : tie.Need-returns
-returns c = rw (c .word .ensures)
+returns c = rw (c .u32-from-u8 .ensures .0)
 
 pub refused-spec : {M : Type 1} → statement M
-refused-spec = tie.close (tie.spec word-requires returns)
+refused-spec = tie.close (tie.spec u32-from-u8-requires returns)

@@ -11,8 +11,8 @@ sheet-requires c κs = search needs
 enum-known-printed : tie.Need-enum-known-printed
 enum-known-printed c = search needs
 
-size-requires : tie.Need-size-requires
-size-requires c κs = search needs
+size-from-u64-requires : tie.Need-size-from-u64-requires
+size-from-u64-requires c κs = search needs
 
 enum-known-printed-2 : tie.Need-enum-known-printed-2
 enum-known-printed-2 c = search needs
@@ -27,7 +27,7 @@ returns : tie.Need-returns
 returns c =
     let s = c .before .before .before .before .before .before .before .before .before .before in
     let e = c .before .before .before .before .before .before .sheet .ensures in
-    rw (c .size .ensures)
+    rw (c .size-from-u64 .ensures .0)
     (sheet-stands (s .args .log .now) (s .args .text .now) (s .pre) _ _ (sym (e .0) ∙ c .before .before .printed .given .1) (e .1))
 
 same-length-2 : tie.Need-same-length-2
@@ -46,7 +46,7 @@ answer-spec =
     (tie.spec
     sheet-requires
     enum-known-printed
-    size-requires
+    size-from-u64-requires
     enum-known-printed-2
     refuse-requires
     same-length

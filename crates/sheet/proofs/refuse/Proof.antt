@@ -13,8 +13,8 @@ refusal-line-requires c κs = search needs
 enum-known-printed : tie.Need-enum-known-printed
 enum-known-printed c = search needs
 
-size-requires : tie.Need-size-requires
-size-requires c κs = search needs
+size-from-u64-requires : tie.Need-size-from-u64-requires
+size-from-u64-requires c κs = search needs
 
 enum-told : tie.Need-enum-told
 enum-told c = search needs
@@ -27,7 +27,7 @@ returns c =
     let s = c .before .before .before .before .before .before .before .before .before in
     let r = s .args .refusal in
     let e = c .before .before .before .before .before .before .refusal-line .ensures in
-    rw (c .size .ensures)
+    rw (c .size-from-u64 .ensures .0)
     (line-stands r (s .args .text .now) _ _ (omega (arith, refusal-length r (search needs) (search needs))) (sym (e .0) ∙ c .before .before .printed .given .1) (e .1))
 
 same-length-2 : tie.Need-same-length-2
@@ -46,7 +46,7 @@ refuse-spec =
     (tie.spec
     refusal-line-requires
     enum-known-printed
-    size-requires
+    size-from-u64-requires
     enum-told
     same-length
     returns

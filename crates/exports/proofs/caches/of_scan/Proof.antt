@@ -3,7 +3,7 @@ use borrow.Author.Needs.{needs}
 use Rattle.exports.proofs.caches.of_scan.Statement.{statement}
 use Rattle.exports.proofs.caches.of_scan.Tie as tie
 use Rattle.exports.proofs.accepted.Reads as accepted-reads
-use Rattle.exports.proofs.caches.long.Reads as long-reads
+use Rattle.exports.proofs.caches.u64-from-u16.Reads as long-reads
 use Rattle.exports.proofs.refused.Reads as refused-reads
 
 enum-told : tie.Need-enum-told
@@ -15,8 +15,8 @@ accepted-requires c κs = search needs
 enum-known-outcome : tie.Need-enum-known-outcome
 enum-known-outcome c = search needs
 
-long-requires : tie.Need-long-requires
-long-requires c κs = search needs
+u64-from-u16-requires : tie.Need-u64-from-u16-requires
+u64-from-u16-requires c κs = search needs
 
 accepted-requires-2 : tie.Need-accepted-requires-2
 accepted-requires-2 c κs = search needs
@@ -43,7 +43,7 @@ of-scan-spec =
     enum-told
     accepted-requires
     enum-known-outcome
-    long-requires
+    u64-from-u16-requires
     accepted-requires-2
     enum-known-outcome-2
     refused-requires

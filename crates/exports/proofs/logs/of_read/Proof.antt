@@ -6,8 +6,8 @@ use Rattle.exports.proofs.logs.of_read.Tie as tie
 enum-known-outcome : tie.Need-enum-known-outcome
 enum-known-outcome c = search needs
 
-long-requires : tie.Need-long-requires
-long-requires c κs = search needs
+u64-from-u16-requires : tie.Need-u64-from-u16-requires
+u64-from-u16-requires c κs = search needs
 
 accepted-requires : tie.Need-accepted-requires
 accepted-requires c κs = search needs
@@ -29,7 +29,7 @@ of-read-spec =
     tie.close
     (tie.spec
     enum-known-outcome
-    long-requires
+    u64-from-u16-requires
     accepted-requires
     enum-known-outcome-2
     refused-requires

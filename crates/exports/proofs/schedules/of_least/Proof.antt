@@ -6,8 +6,8 @@ use Rattle.exports.proofs.schedules.of_least.Tie as tie
 enum-known-outcome : tie.Need-enum-known-outcome
 enum-known-outcome c = search needs
 
-wide-requires : tie.Need-wide-requires
-wide-requires c κs = search needs
+u64-from-u32-requires : tie.Need-u64-from-u32-requires
+u64-from-u32-requires c κs = search needs
 
 accepted-requires : tie.Need-accepted-requires
 accepted-requires c κs = search needs
@@ -29,7 +29,7 @@ of-least-spec =
     tie.close
     (tie.spec
     enum-known-outcome
-    wide-requires
+    u64-from-u32-requires
     accepted-requires
     enum-known-outcome-2
     refused-requires

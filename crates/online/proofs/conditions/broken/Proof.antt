@@ -23,12 +23,12 @@ returns-3 : tie.Need-returns-3
 unfolding broken
 returns-3 c = sym (any-holds (faults (c .before .before .before .before .before .before .args .cache)) 2 (lt-ltb _ _ (c .if3 .taken)))
 
-half-requires : tie.Need-half-requires
-half-requires c κs = search needs
+u16-from-u8-requires : tie.Need-u16-from-u8-requires
+u16-from-u8-requires c κs = search needs
 
 returns-4 : tie.Need-returns-4
 unfolding broken
-returns-4 c = sym (any-holds (faults (c .before .before .before .before .before .before .before .before .args .cache)) 3 (le-leb _ _ (rw (c .before .half .ensures .0) at (c .if4 .taken))))
+returns-4 c = sym (any-holds (faults (c .before .before .before .before .before .before .before .before .args .cache)) 3 (le-leb _ _ (rw (c .before .u16-from-u8 .ensures .0) at (c .if4 .taken))))
 
 copy-at-requires : tie.Need-copy-at-requires
 copy-at-requires c κs = search needs
@@ -67,7 +67,7 @@ returns-10 c =
       ← c .before .before .before .before .before .before .before .before .before .before .before .before .before .before .before .before .before .count-outside .ensures,
       c .before .before .before .before .before .before .before .before .before .before .before .before .before .before .before .before .if2 .left,
       le-ltb _ _ (c .before .before .before .before .before .before .before .before .before .before .before .before .before .before .if3 .left),
-      lt-leb _ _ (rw (c .before .before .before .before .before .before .before .before .before .before .before .before .before .half .ensures .0) at (c .before .before .before .before .before .before .before .before .before .before .before .before .if4 .left)),
+      lt-leb _ _ (rw (c .before .before .before .before .before .before .before .before .before .before .before .before .before .u16-from-u8 .ensures .0) at (c .before .before .before .before .before .before .before .before .before .before .before .before .if4 .left)),
       ← c .before .before .before .before .before .before .before .before .before .before .before .copy-at .ensures,
       c .before .before .before .before .before .before .before .before .before .before .if5 .left,
       eq-eqb _ _ (rw (c .before .before .before .before .before .before .before .before .before .use-at .ensures) at (c .before .before .before .before .before .before .before .if6 .left)),
@@ -85,7 +85,7 @@ broken-spec =
     count-outside-requires
     returns-2
     returns-3
-    half-requires
+    u16-from-u8-requires
     returns-4
     copy-at-requires
     returns-5

@@ -7,8 +7,8 @@ use Rattle.online.specs.Answers.{scan-verdict}
 use Rattle.online.proofs.conditions.scan_fault.Statement.{statement}
 use Rattle.online.proofs.conditions.scan_fault.Tie as tie
 
-half-requires : tie.Need-half-requires
-half-requires c κs = search needs
+u16-from-u8-requires : tie.Need-u16-from-u8-requires
+u16-from-u8-requires c κs = search needs
 
 or-else-requires : tie.Need-or-else-requires
 or-else-requires c κs = search needs
@@ -47,14 +47,14 @@ returns c =
       c .before .before .before .before .before .before .before .or-else2 .ensures,
       c .before .before .before .before .before .before .before .before .outside .ensures,
       c .before .before .before .before .before .before .before .before .before .or-else .ensures,
-      c .before .before .before .before .before .before .before .before .before .before .half .ensures .0,
+      c .before .before .before .before .before .before .before .before .before .before .u16-from-u8 .ensures .0,
     ))
 
 pub scan-fault-spec : {M : Type 1} → statement M
 scan-fault-spec =
     tie.close
     (tie.spec
-    half-requires
+    u16-from-u8-requires
     or-else-requires
     outside-requires
     or-else-requires-2

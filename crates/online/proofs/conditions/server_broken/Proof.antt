@@ -31,8 +31,8 @@ returns-3 c = λ s l u.
 expiry-requires : tie.Need-expiry-requires
 expiry-requires c κs = search needs
 
-wide-requires : tie.Need-wide-requires
-wide-requires c κs = search needs
+u64-from-u32-requires : tie.Need-u64-from-u32-requires
+u64-from-u32-requires c κs = search needs
 
 returns-4 : tie.Need-returns-4
 unfolding server-broken any-of copy-at
@@ -40,7 +40,7 @@ returns-4 c = λ s l u.
     let f = c .before .before in
     let k = f .before .before .before .before in
     rw (
-      c .wide .ensures .0,
+      c .u64-from-u32 .ensures .0,
       c .before .expiry .ensures,
       ← u,
       ← l .window,
@@ -70,6 +70,6 @@ server-broken-spec =
     returns-2
     returns-3
     expiry-requires
-    wide-requires
+    u64-from-u32-requires
     returns-4
     returns-5)

@@ -29,8 +29,8 @@ loop-holds : tie.Need-loop-holds Inv-loop μ-loop
 unfolding some-server
 loop-holds c = (search needs, search needs, λ s l e. refl)
 
-size-requires : tie.Need-size-requires Inv-loop μ-loop
-size-requires c κs = search needs
+size-from-u16-requires : tie.Need-size-from-u16-requires Inv-loop μ-loop
+size-from-u16-requires c κs = search needs
 
 mul-server-broken : tie.Need-mul-server-broken Inv-loop μ-loop
 mul-server-broken c = search needs
@@ -47,7 +47,7 @@ returns c =
     let k = c .before .before .before .before in
     let a = k .before .before .before .args in
     let y = k .loop .y in
-    let e : server-broken (a .cache) y ≡ true = sym (c .before .server-broken .ensures (a .cache) (k .before .before .outline-of .ensures) (rw (c .before .before .size .ensures))) ∙ c .if1 .taken in
+    let e : server-broken (a .cache) y ≡ true = sym (c .before .server-broken .ensures (a .cache) (k .before .before .outline-of .ensures) (rw (c .before .before .size-from-u16 .ensures .0))) ∙ c .if1 .taken in
     sym (some-server-one 64 (server-broken (a .cache)) y (omega arith) e)
 
 add-y : tie.Need-add-y Inv-loop μ-loop
@@ -64,7 +64,7 @@ loop-again c =
       search needs,
       search needs,
       λ s l u.
-          let e : server-broken s y ≡ false = sym (c .before .server-broken .ensures s l (rw (c .before .before .size .ensures, u))) ∙ c .if1 .left in
+          let e : server-broken s y ≡ false = sym (c .before .server-broken .ensures s l (rw (c .before .before .size-from-u16 .ensures .0, u))) ∙ c .if1 .left in
           rw (add-one y, e) (k .loop .inv .2 s l u),
     )
 
@@ -82,7 +82,7 @@ servers-broken-spec =
     μ-loop
     outline-of-requires
     loop-holds
-    size-requires
+    size-from-u16-requires
     mul-server-broken
     array-read-server-broken
     server-broken-requires

@@ -49,8 +49,8 @@ loop-holds c =
 member-requires : tie.Need-member-requires Inv-loop μ-loop
 member-requires c κs = search needs
 
-size-requires : tie.Need-size-requires Inv-loop μ-loop
-size-requires c κs = search needs
+size-from-u16-requires : tie.Need-size-from-u16-requires Inv-loop μ-loop
+size-from-u16-requires c κs = search needs
 
 mul-used : tie.Need-mul-used Inv-loop μ-loop
 mul-used c = search needs
@@ -85,7 +85,7 @@ add-held c =
     let p = k .before .before .before .before .before .pre in
     let y = k .member .result in
     let f = seconds (a .cache) (a .q .second) in
-    let e : c .seconds .result ≡ f y = c .seconds .ensures (a .cache) (p .0) (rw (c .before .before .before .before .size .ensures)) in
+    let e : c .seconds .result ≡ f y = c .seconds .ensures (a .cache) (p .0) (rw (c .before .before .before .before .size-from-u16 .ensures .0)) in
     let fits : c .seconds .result + l .held < 2 ^ 32 = omega (
       arith,
       e,
@@ -112,7 +112,7 @@ loop-again c =
     let a = k .before .before .before .before .before .args in
     let p = k .before .before .before .before .before .pre in
     let y = k .member .result in
-    let i = c .before .before .before .before .before .size .ensures in
+    let i = c .before .before .before .before .before .size-from-u16 .ensures .0 in
     let f = next-use (a .cache) (a .q .second) (a .q .server) in
     let g = stands (a .cache) (a .q .second) (a .q .server) in
     let h = seconds (a .cache) (a .q .second) in
@@ -175,7 +175,7 @@ accept-spec =
     put-requires
     loop-holds
     member-requires
-    size-requires
+    size-from-u16-requires
     mul-used
     array-read-used
     next-use-requires

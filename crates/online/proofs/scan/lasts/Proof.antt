@@ -10,8 +10,8 @@ use Rattle.online.proofs.scan.lasts.Tie as tie
 has-requires : tie.Need-has-requires
 has-requires c κs = search needs
 
-wide-requires : tie.Need-wide-requires
-wide-requires c κs = search needs
+u64-from-u32-requires : tie.Need-u64-from-u32-requires
+u64-from-u32-requires c κs = search needs
 
 expiry-requires : tie.Need-expiry-requires
 expiry-requires c κs = search needs
@@ -22,7 +22,7 @@ returns c = λ s l u.
     let k = c .before .before in
     let a = k .before .before .args in
     let copy : has (a .o .holders) (a .y) ≡ true = sym (k .before .has .ensures) ∙ k .if1 .taken in
-    rw (c .expiry .ensures, c .before .wide .ensures .0, ← u, ← l .window, ← l .holders, copy)
+    rw (c .expiry .ensures, c .before .u64-from-u32 .ensures .0, ← u, ← l .window, ← l .holders, copy)
 
 returns-2 : tie.Need-returns-2
 unfolding lasts copy-at
@@ -32,4 +32,4 @@ returns-2 c = λ s l u.
     rw (← l .holders, copy)
 
 pub lasts-spec : {M : Type 1} → statement M
-lasts-spec = tie.close (tie.spec has-requires wide-requires expiry-requires returns returns-2)
+lasts-spec = tie.close (tie.spec has-requires u64-from-u32-requires expiry-requires returns returns-2)

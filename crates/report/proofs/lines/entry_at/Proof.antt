@@ -5,29 +5,29 @@ use native.Mathlib.Numerals.{add-one}
 use Rattle.report.proofs.lines.entry_at.Statement.{statement}
 use Rattle.report.proofs.lines.entry_at.Tie as tie
 
-add-from-size : tie.Need-add-from-size
-add-from-size c = search needs
+add-u64-from-size : tie.Need-add-u64-from-size
+add-u64-from-size c = search needs
 
-from-size-requires : tie.Need-from-size-requires
-from-size-requires c κs = search needs
+u64-from-size-requires : tie.Need-u64-from-size-requires
+u64-from-size-requires c κs = search needs
 
-mul-from32 : tie.Need-mul-from32
-mul-from32 c = search needs
+mul-u64-from-u32 : tie.Need-mul-u64-from-u32
+mul-u64-from-u32 c = search needs
 
-shared-slice-read-from32 : tie.Need-shared-slice-read-from32
-shared-slice-read-from32 c = search needs
+shared-slice-read-u64-from-u32 : tie.Need-shared-slice-read-u64-from-u32
+shared-slice-read-u64-from-u32 c = search needs
 
-from32-requires : tie.Need-from32-requires
-from32-requires c κs = search needs
+u64-from-u32-requires : tie.Need-u64-from-u32-requires
+u64-from-u32-requires c κs = search needs
 
-mul-from16 : tie.Need-mul-from16
-mul-from16 c = search needs
+mul-u64-from-u16 : tie.Need-mul-u64-from-u16
+mul-u64-from-u16 c = search needs
 
-shared-slice-read-from16 : tie.Need-shared-slice-read-from16
-shared-slice-read-from16 c = search needs
+shared-slice-read-u64-from-u16 : tie.Need-shared-slice-read-u64-from-u16
+shared-slice-read-u64-from-u16 c = search needs
 
-from16-requires : tie.Need-from16-requires
-from16-requires c κs = search needs
+u64-from-u16-requires : tie.Need-u64-from-u16-requires
+u64-from-u16-requires c κs = search needs
 
 shared-slice-read-t19 : tie.Need-shared-slice-read-t19
 shared-slice-read-t19 c = search needs
@@ -52,20 +52,20 @@ shared-slice-read-t28 c = search needs
 
 returns : tie.Need-returns
 unfolding entry-of
-returns c = rw (c .before .before .before .before .before .before .before .before .from-size .ensures, c .before .before .before .before .before .before .from32 .ensures, c .before .before .before .before .from16 .ensures, add-one (c .before .before .before .before .before .before .before .before .before .before .before .before .before .before .before .args .i))
+returns c = rw (c .before .before .before .before .before .before .before .before .u64-from-size .ensures .0, c .before .before .before .before .before .before .u64-from-u32 .ensures .0, c .before .before .before .before .u64-from-u16 .ensures .0, add-one (c .before .before .before .before .before .before .before .before .before .before .before .before .before .before .before .args .i))
 
 pub entry-at-spec : {M : Type 1} → statement M
 entry-at-spec =
     tie.close
     (tie.spec
-    add-from-size
-    from-size-requires
-    mul-from32
-    shared-slice-read-from32
-    from32-requires
-    mul-from16
-    shared-slice-read-from16
-    from16-requires
+    add-u64-from-size
+    u64-from-size-requires
+    mul-u64-from-u32
+    shared-slice-read-u64-from-u32
+    u64-from-u32-requires
+    mul-u64-from-u16
+    shared-slice-read-u64-from-u16
+    u64-from-u16-requires
     shared-slice-read-t19
     shared-slice-read-t21
     add-t22

@@ -8,8 +8,8 @@ use Rattle.report.proofs.sheets.request_count.Tie as tie
 enum-known-outcome : tie.Need-enum-known-outcome
 enum-known-outcome c = search needs
 
-size-requires : tie.Need-size-requires
-size-requires c κs = search needs
+size-from-u16-requires : tie.Need-size-from-u16-requires
+size-from-u16-requires c κs = search needs
 
 enum-told : tie.Need-enum-told
 enum-told c = search needs
@@ -17,7 +17,7 @@ enum-told c = search needs
 returns : tie.Need-returns
 unfolding requests-read
 returns c =
-    rw (c .before .before .outcome .given .1) (c .size .ensures)
+    rw (c .before .before .outcome .given .1) (c .size-from-u16 .ensures .0)
 
 returns-2 : tie.Need-returns-2
 unfolding requests-read
@@ -26,4 +26,4 @@ returns-2 c =
 
 pub request-count-spec : {M : Type 1} → statement M
 request-count-spec =
-    tie.close (tie.spec enum-known-outcome size-requires enum-told returns returns-2)
+    tie.close (tie.spec enum-known-outcome size-from-u16-requires enum-told returns returns-2)

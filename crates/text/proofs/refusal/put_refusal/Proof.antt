@@ -20,8 +20,8 @@ put-requires c κs = search needs
 put-list-requires : tie.Need-put-list-requires
 put-list-requires c κs = search needs
 
-from8-requires : tie.Need-from8-requires
-from8-requires c κs = search needs
+u64-from-u8-requires : tie.Need-u64-from-u8-requires
+u64-from-u8-requires c κs = search needs
 
 put-field-requires : tie.Need-put-field-requires
 put-field-requires c κs = search needs
@@ -53,7 +53,7 @@ returns c =
       c .before .before .before .before .before .before .put-field2 .ensures,
       c .before .before .before .before .before .before .before .before .before .before .put2 .ensures,
       c .before .before .before .before .before .before .before .before .before .before .before .before .before .before .before .put-field .ensures,
-      c .before .before .before .before .before .before .before .before .before .before .before .before .before .before .before .before .from8 .ensures,
+      c .before .before .before .before .before .before .before .before .before .before .before .before .before .before .before .before .u64-from-u8 .ensures .0,
       c .before .before .before .before .before .before .before .before .before .before .before .before .before .before .before .before .before .before .before .before .put-list .ensures,
       c .before .before .before .before .before .before .before .before .before .before .before .before .before .before .before .before .before .before .before .before .before .before .before .before .put .ensures,
     ) (refusal-parts r (page 0 o)) in
@@ -66,7 +66,7 @@ put-refusal-spec =
     slice-aggregate-put
     put-requires
     put-list-requires
-    from8-requires
+    u64-from-u8-requires
     put-field-requires
     slice-aggregate-put-2
     put-requires-2

@@ -1,0 +1,119 @@
+-- The round trips of the log over its calls: what `write` leaves is read as it was given, and what `read` answers is written as it was.
+use mathlib.Core.List.{List, _++_}
+use mathlib.Core.Path.{_≡_, refl, sym, ap, _∙_}
+use Prim.Native.Nat.{ℕ, _-_, _≤_}
+use native.Mathlib.Omega.{arith}
+use lib.ListN.{length, take, replicate}
+use lib.Seq.{take-at}
+use Rattle.base.specs.declared.Verdict.{Verdict}
+use Rattle.base.specs.declared.Verdict.the-variants.{Passed, Refused}
+use Rattle.base.specs.Bytes.{Are-bytes}
+use Rattle.base.specs.Lent.{lent}
+use Rattle.log.specs.declared.Header.{Header}
+use Rattle.log.specs.declared.Decoded.{Decoded}
+use Rattle.log.specs.declared.ReadOutcome.the-variants as read
+use Rattle.log.specs.declared.Written.the-variants as write
+use Rattle.log.specs.Fields.{header-of, request-count, length-for, seconds-of, servers-of}
+use Rattle.log.specs.Contents.{Contents, contents, decode, encode}
+use Rattle.log.specs.Ranges.{Proper, Sixteen}
+use Rattle.log.specs.Answers.{read-verdict, decoded, seconds-left, servers-left, write-verdict, written, log-left}
+use Rattle.log.specs.AcceptedLaws.{accepted-sound, seconds-length, servers-length}
+use Rattle.log.specs.EncodeLaws.{encode-length, encode-count, encode-header, encode-seconds, encode-servers}
+use Rattle.log.specs.RoundTrip.{encode-accepted, decode-proper, encode-decode}
+use Rattle.log.specs.AnswerLaws.{read-passed, read-passes, write-passed, write-passes}
+
+-- the reader's answer where a log is accepted: this header and so many requests
+abbrev pub requests-read : Header → ℕ → Decoded
+requests-read h n = record { header = h; outcome = read.Requests n }
+
+-- a length is answered where the verdict passed
+length-passed : (v : Verdict) (c : Contents) (n : ℕ) → written v c ≡ write.Length n → (v ≡ Passed) × (n ≡ length-for (length (c .seconds)))
+unfolding written
+length-passed Passed c n e = (refl, let d : n ≡ length-for (length (c .seconds)) = cc in d)
+length-passed (Refused r) c n e = let z : _≡_ {A = ℕ} 0 1 = cc in absurd (omega arith)
+
+-- and requests are
+requests-passed : (v : Verdict) (log : List ℕ) (h : Header) (n : ℕ) → decoded v log ≡ requests-read h n
+    → (v ≡ Passed) × (h ≡ header-of log) × (n ≡ request-count log)
+unfolding decoded
+requests-passed Passed log h n e =
+    let o : read.Requests (request-count log) ≡ read.Requests n = ap (λ (d : Decoded). d .outcome) e in
+    let m : n ≡ request-count log = cc in
+    (refl, sym (ap (λ (d : Decoded). d .header) e), m)
+requests-passed (Refused r) log h n e =
+    let o : read.Refused r ≡ read.Requests n = ap (λ (d : Decoded). d .outcome) e in
+    let z : _≡_ {A = ℕ} 0 1 = cc in
+    absurd (omega arith)
+
+-- an answer and zeros after it
+given : (v : Verdict) (answer entry : List ℕ) → v ≡ Passed → lent v answer entry ≡ answer ++ replicate (length entry - length answer) 0
+unfolding lent
+given v answer entry e = rw e
+
+-- `write` was handed a header, seconds and servers, and answered the length n
+module _ (h : Header) (seconds servers log : List ℕ) (n : ℕ) (sixteen : length (h .id) ≡ 16)
+    (wrote : written (write-verdict (contents h seconds servers) (length log)) (contents h seconds servers) ≡ write.Length n) where
+  -- the first n bytes of what it left
+  abbrev bytes-left : List ℕ
+  bytes-left = take n (log-left (contents h seconds servers) log)
+
+  proper : Proper (contents h seconds servers)
+  proper = write-passed (contents h seconds servers) (length log) (length-passed _ _ n wrote .0) .0
+
+  -- they are the log that says this
+  bytes-are : bytes-left ≡ encode (contents h seconds servers)
+  bytes-are =
+      let c = contents h seconds servers in
+      let (p, m) = length-passed (write-verdict c (length log)) c n wrote in
+      ap (take n) (given (write-verdict c (length log)) (encode c) log p)
+      ∙ take-at (encode c) _ n (encode-length c sixteen ∙ sym m)
+
+  -- read into lists that are long enough, they give the same header and as many requests, and the lists hold the same seconds and servers, then zeros
+  pub written-read : (seconds′ servers′ : List ℕ) → length seconds ≤ length seconds′ → length seconds ≤ length servers′
+      → (decoded (read-verdict bytes-left (length seconds′) (length servers′)) bytes-left ≡ requests-read h (length seconds))
+      × (seconds-left bytes-left seconds′ servers′ ≡ seconds ++ replicate (length seconds′ - length seconds) 0)
+      × (servers-left bytes-left seconds′ servers′ ≡ servers ++ replicate (length servers′ - length servers) 0)
+  unfolding decoded
+  written-read seconds′ servers′ p q =
+      let c = contents h seconds servers in
+      let count = encode-count c (omega (arith, proper .requests-most)) in
+      let v : read-verdict (encode c) (length seconds′) (length servers′) ≡ Passed =
+      read-passes (encode c) _ _ (encode-accepted c proper sixteen) (omega arith) (omega arith) in
+      rw bytes-are (
+        rw (v, encode-header c sixteen, count),
+        given _ _ seconds′ v ∙ rw (encode-seconds c sixteen proper),
+        given _ _ servers′ v ∙ rw (encode-servers c sixteen proper),
+      )
+
+-- `read` was handed bytes, and answered the header h and n requests
+module _ (bytes seconds servers : List ℕ) (h : Header) (n : ℕ) (are-bytes : Are-bytes bytes)
+    (was-read : decoded (read-verdict bytes (length seconds) (length servers)) bytes ≡ requests-read h n) where
+  -- that header, and the requests at the front of what it left
+  abbrev contents-read : Contents
+  contents-read = contents h (take n (seconds-left bytes seconds servers)) (take n (servers-left bytes seconds servers))
+
+  -- they are what the bytes say
+  contents-are : contents-read ≡ decode bytes
+  unfolding decode
+  contents-are =
+      let (v, e, m) = requests-passed (read-verdict bytes (length seconds) (length servers)) bytes h n was-read in
+      rw (
+        e,
+        m,
+        given (read-verdict bytes (length seconds) (length servers)) (seconds-of bytes) seconds v,
+        given (read-verdict bytes (length seconds) (length servers)) (servers-of bytes) servers v,
+        take-at (seconds-of bytes) _ (request-count bytes) (seconds-length bytes),
+        take-at (servers-of bytes) _ (request-count bytes) (servers-length bytes),
+      )
+
+  -- written into a list that is long enough, they give the length of the bytes, and the list holds the bytes, then zeros
+  pub read-written : (log : List ℕ) → length bytes ≤ length log
+      → (written (write-verdict contents-read (length log)) contents-read ≡ write.Length (length bytes))
+      × (log-left contents-read log ≡ bytes ++ replicate (length log - length bytes) 0)
+  unfolding written decode
+  read-written log l =
+      let v = requests-passed (read-verdict bytes (length seconds) (length servers)) bytes h n was-read .0 in
+      let a = read-passed bytes _ _ v .0 in
+      let long : length-for (length (seconds-of bytes)) ≡ length bytes = ap length-for (seconds-length bytes) ∙ sym (accepted-sound bytes a .length-is) in
+      let w : write-verdict (decode bytes) (length log) ≡ Passed = write-passes (decode bytes) _ (decode-proper bytes a) (omega arith) in
+      rw contents-are (rw (w, long), given _ _ log w ∙ rw (encode-decode bytes a are-bytes))
