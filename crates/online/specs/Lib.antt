@@ -14,3 +14,4 @@ pub mod Intact
 pub mod Widths
 pub mod Passed
 pub mod Untouched
+pub mod Looked

@@ -5,15 +5,18 @@ ghost use Rattle.base.specs.Choice.{either};
 ghost use Rattle.online.specs.Servers.{some-server};
 ghost use Rattle.online.specs.Conditions.{server-broken, broken};
 ghost use Rattle.online.specs.Answers.{scan-verdict, running-verdict, close-verdict};
-ghost use Rattle.online.specs.Serving.{With-use};
+ghost use Rattle.online.specs.Serving.{Outlines, With-use};
+ghost use Rattle.online.specs.Looked.{used-in};
 use crate::Cache;
 use crate::state::Outline;
 use crate::state::copy_at;
 use crate::state::expiry;
+use crate::state::member;
 use crate::state::outline_of;
 use crate::state::use_at;
 use base::Verdict;
 use base::refusals::or_else;
+use base::sets::cut;
 use base::sets::has;
 use base::widths::size_from_u16;
 use base::widths::u16_from_u8;
@@ -55,25 +58,41 @@ fn server_broken(o: Outline, used: u32, y: u16) -> bool
     used != 0
 }
 
-// Some server is at fault.
-fn servers_broken(cache: Cache) -> bool
+// Some server has a last use other than 0: their sum is not 0.
+fn some_used(last_use: &[u32; 64]) -> bool
+    ensures { λ r. ⌜ r ≡ some-server 64 (used-in (now (last_use .entry))) ⌝ }
+{
+    let mut sum: u64 = 0;
+    let mut i: usize = 0;
+    while i < 64 {
+        sum += u64_from_u32(last_use[i]);
+        i += 1;
+    }
+    sum != 0
+}
+
+// Some server is at fault. The holders are asked one by one; any other is at fault if it has a last use at all.
+fn servers_broken(cache: Cache, o: Outline) -> bool
+    requires { ⌜ Outlines cache o ⌝ }
     ensures { λ r. ⌜ r ≡ some-server 64 (server-broken cache) ⌝ }
 {
-    let o = outline_of(cache);
-    let last_use = cache.last_use;
-    let mut y: u16 = 0;
-    while y < 64 {
+    let mut rest = cache.last_use;
+    let mut left = o.holders;
+    while left != 0 {
+        let y = member(left);
         let at = size_from_u16(y);
-        if server_broken(o, last_use[at], y) {
+        if server_broken(o, rest[at], y) {
             return true;
         }
-        y += 1;
+        rest[at] = 0;
+        left = cut(left, y);
     }
-    false
+    some_used(&rest)
 }
 
 // 32: the state is out of range, or some server is at fault.
-fn broken(cache: Cache) -> bool
+fn broken(cache: Cache, o: Outline) -> bool
+    requires { ⌜ Outlines cache o ⌝ }
     ensures { λ r. ⌜ r ≡ broken cache ⌝ }
 {
     let last = cache.last;
@@ -104,11 +123,12 @@ fn broken(cache: Cache) -> bool
     if 256000000 < cache.held {
         return true;
     }
-    servers_broken(cache)
+    servers_broken(cache, o)
 }
 
 // What refuses a scan: 11, 12, 32 to 35.
-pub fn scan_fault(cache: Cache, second: u32, server: u16) -> Verdict
+pub(crate) fn scan_fault(cache: Cache, o: Outline, second: u32, server: u16) -> Verdict
+    requires { ⌜ Outlines cache o ⌝ }
     ensures { λ r. ⌜ r ≡ scan-verdict cache second server ⌝ }
 {
     let v = or_else(
@@ -118,7 +138,7 @@ pub fn scan_fault(cache: Cache, second: u32, server: u16) -> Verdict
         0,
     );
     let v = or_else(v, outside(second, 4000000), 12, 0);
-    let v = or_else(v, broken(cache), 32, 0);
+    let v = or_else(v, broken(cache, o), 32, 0);
     let v = or_else(v, cache.closed, 33, 0);
     let v = or_else(v, 2048 <= cache.requests, 34, 0);
     or_else(v, second <= cache.second, 35, 0)
@@ -128,7 +148,8 @@ pub fn scan_fault(cache: Cache, second: u32, server: u16) -> Verdict
 pub fn state_fault(cache: Cache) -> Verdict
     ensures { λ r. ⌜ r ≡ running-verdict cache ⌝ }
 {
-    or_else(Verdict::Passed, broken(cache), 32, 0)
+    let o = outline_of(cache);
+    or_else(Verdict::Passed, broken(cache, o), 32, 0)
 }
 
 // What refuses a close: 32, 33.

@@ -1,10 +1,8 @@
 // A scan: one request at a second and a server, by the rules of 01's 'The live keeper'.
-ghost use mathlib.Core.Bool.{true};
-ghost use mathlib.Core.Logic.{_≢_};
 ghost use mathlib.Core.Path.{_≡_};
 ghost use Prim.Native.Nat.{suc, _+_, _-_, _<_, min};
 ghost use Rattle.base.specs.Choice.{pick};
-ghost use Rattle.base.specs.Sets.{has, put};
+ghost use Rattle.base.specs.Sets.{put};
 ghost use Rattle.online.specs.Rules.{lasts, kept, uses, stands, next-use, seconds, accept};
 ghost use Rattle.online.specs.Passed.{Fit};
 ghost use Rattle.online.specs.Serving.{Outlines, Serves, With-use, With-mark};
@@ -16,12 +14,12 @@ use crate::conditions::scan_fault;
 use crate::running::running_cost;
 use crate::state::Outline;
 use crate::state::expiry;
+use crate::state::member;
 use crate::state::outline_of;
 use crate::state::use_at;
 use base::Verdict;
 use base::sets::cut;
 use base::sets::has;
-use base::sets::lowest;
 use base::sets::put;
 use base::widths::size_from_u16;
 use base::widths::u64_from_u32;
@@ -134,14 +132,6 @@ fn put_if(set: u64, holds: bool, y: u16) -> u64
     set
 }
 
-// A member of a set that has one: the lowest.
-fn member(set: u64) -> u16
-    requires { ⌜ set ≢ 0 ⌝ }
-    ensures { λ r. ⌜ (has set r ≡ true) × (r < 64) ⌝ }
-{
-    lowest(set) as u16
-}
-
 // The transfers after the request: one more if it is S.
 fn next_transfers(transfers: u32, kept: bool) -> u32
     requires { ⌜ transfers < 2048 ⌝ }
@@ -204,14 +194,14 @@ impl Cache {
     pub fn scan(self, second: u32, server: u16) -> Scanned
         ensures { λ r. ⌜ r ≡ scanned self second server ⌝ }
     {
-        let v = scan_fault(self, second, server);
+        let o = outline_of(self);
+        let v = scan_fault(self, o, second, server);
         if let Verdict::Refused(r) = v {
             return Scanned {
                 cache: self,
                 outcome: ScanOutcome::Refused(r),
             };
         }
-        let o = outline_of(self);
         let used = use_at(self, server);
         let q = Served {
             second,

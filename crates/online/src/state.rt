@@ -1,10 +1,14 @@
 // What a state says of its class and of each server. A server from 64 on has no copy and no last use.
+ghost use mathlib.Core.Bool.{true};
+ghost use mathlib.Core.Logic.{_≢_};
 ghost use mathlib.Core.Path.{_≡_};
-ghost use Prim.Native.Nat.{_+_};
+ghost use Prim.Native.Nat.{_+_, _<_};
+ghost use Rattle.base.specs.Sets.{has};
 ghost use Rattle.online.specs.Rules.{window-of, copy-at, use-at};
 ghost use Rattle.online.specs.Serving.{Outlines};
 use crate::Cache;
 use base::sets::has;
+use base::sets::lowest;
 use base::widths::u16_from_u8;
 use base::widths::u64_from_u32;
 use prices::of_class;
@@ -62,4 +66,12 @@ pub fn expiry(used: u32, window: u32) -> u64
     ensures { λ r. ⌜ r ≡ used + window ⌝ }
 {
     u64_from_u32(used) + u64_from_u32(window)
+}
+
+// A member of a set that has one: the lowest.
+pub(crate) fn member(set: u64) -> u16
+    requires { ⌜ set ≢ 0 ⌝ }
+    ensures { λ r. ⌜ (has set r ≡ true) × (r < 64) ⌝ }
+{
+    lowest(set) as u16
 }

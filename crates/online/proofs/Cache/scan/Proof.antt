@@ -6,8 +6,11 @@ use Rattle.online.specs.Passed.{scan-passed}
 use Rattle.online.proofs.Cache.scan.Statement.{statement}
 use Rattle.online.proofs.Cache.scan.Tie as tie
 
+outline-of-requires : tie.Need-outline-of-requires
+outline-of-requires c κs = search needs
+
 scan-fault-requires : tie.Need-scan-fault-requires
-scan-fault-requires c κs = search needs
+scan-fault-requires c κs = c .outline-of .ensures
 
 enum-known-v : tie.Need-enum-known-v
 enum-known-v c = search needs
@@ -19,9 +22,6 @@ returns c = rw (← c .before .before .before .scan-fault .ensures, c .before .v
 enum-told : tie.Need-enum-told
 enum-told c = search needs
 
-outline-of-requires : tie.Need-outline-of-requires
-outline-of-requires c κs = search needs
-
 use-at-requires : tie.Need-use-at-requires
 use-at-requires c κs = search needs
 
@@ -30,11 +30,12 @@ kept-requires c κs = search needs
 
 accept-requires : tie.Need-accept-requires
 accept-requires c κs =
-    let o = c .before .before in
-    let a = o .before .before .before .before .args in (
-      o .outline-of .ensures,
-      record { mark = c .kept .ensures (a .self) (o .outline-of .ensures) (c .before .use-at .ensures) },
-      scan-passed (a .self) (a .second) (a .server) (sym (o .before .before .before .scan-fault .ensures) ∙ o .before .enum-told .given .1),
+    let told = c .before .before in
+    let o = told .before .before .before .outline-of .ensures in
+    let a = told .before .before .before .before .args in (
+      o,
+      record { mark = c .kept .ensures (a .self) o (c .before .use-at .ensures) },
+      scan-passed (a .self) (a .second) (a .server) (sym (told .before .before .scan-fault .ensures) ∙ told .enum-told .given .1),
     )
 
 running-cost-requires : tie.Need-running-cost-requires
@@ -47,12 +48,13 @@ returns-2 : tie.Need-returns-2
 unfolding scanned scanned-by
 returns-2 c =
     let k = c .before .before .before in
-    let o = k .before .before in
-    let a = o .before .before .before .before .args in
+    let told = k .before .before in
+    let o = told .before .before .before .outline-of .ensures in
+    let a = told .before .before .before .before .args in
     rw (
-      ← o .before .before .before .scan-fault .ensures,
-      o .before .enum-told .given .1,
-      c .mark .ensures (a .self) (o .outline-of .ensures) (record { mark = k .kept .ensures (a .self) (o .outline-of .ensures) (k .before .use-at .ensures) }),
+      ← told .before .before .scan-fault .ensures,
+      told .enum-told .given .1,
+      c .mark .ensures (a .self) o (record { mark = k .kept .ensures (a .self) o (k .before .use-at .ensures) }),
       c .before .running-cost .ensures,
       c .before .before .accept .ensures,
     )
@@ -61,11 +63,11 @@ pub scan-spec : {M : Type 1} → statement M
 scan-spec =
     tie.close
     (tie.spec
+    outline-of-requires
     scan-fault-requires
     enum-known-v
     returns
     enum-told
-    outline-of-requires
     use-at-requires
     kept-requires
     accept-requires

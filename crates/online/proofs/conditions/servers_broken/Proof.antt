@@ -1,33 +1,31 @@
 -- `online::conditions::servers_broken` meets its contract. Assumes nothing.
 use borrow.Author.Needs.{needs}
 use mathlib.Core.Bool.{true, false}
-use mathlib.Core.Path.{_≡_, refl, sym, _∙_}
-use Prim.Native.Nat.{_-_, _≤_}
+use mathlib.Core.Path.{_≡_, refl, sym, ap, _∙_}
 use native.Mathlib.Omega.{arith}
-use native.Mathlib.Numerals.{add-one}
-use lib.ListN.{length}
+use lib.ListN.{length, getD, length-set}
+use Rattle.base.specs.Sets.{members}
+use Rattle.base.specs.SetLaws.{members-cut}
 use Rattle.online.specs.declared.Cache.{Cache}
 use Rattle.online.specs.Serving.{Outlines}
-use Rattle.online.specs.Servers.{some-server}
 use Rattle.online.specs.Rules.{use-at}
 use Rattle.online.specs.Conditions.{server-broken}
 use Rattle.online.specs.ConditionLaws.{some-server-one}
+use Rattle.online.specs.Looked.{Looked, looked-first, looked-next, looked-last}
 use Rattle.online.proofs.conditions.servers_broken.Statement.{statement}
 use Rattle.online.proofs.conditions.servers_broken.Tie as tie
 
 abbrev Inv-loop : tie.InvT-loop
-Inv-loop o last-use y₀ y =
-    (y ≤ 64) × (length last-use ≡ 64) × ((s : Cache) → Outlines s o → s .«last_use» ≡ last-use → some-server y (server-broken s) ≡ false)
+Inv-loop o rest₀ left₀ rest left = (length rest ≡ 64) × ((s : Cache) → Outlines s o → s .«last_use» ≡ rest₀ → Looked s left rest)
 
 abbrev μ-loop : tie.MeasureT-loop
-μ-loop o last-use y₀ y = 64 - y
-
-outline-of-requires : tie.Need-outline-of-requires Inv-loop μ-loop
-outline-of-requires c κs = search needs
+μ-loop o rest₀ left₀ rest left = members 64 left
 
 loop-holds : tie.Need-loop-holds Inv-loop μ-loop
-unfolding some-server
-loop-holds c = (search needs, search needs, λ s l e. refl)
+loop-holds c = (search needs, λ s l e. rw (l .holders, ← e) (looked-first s (rw e (search needs))))
+
+member-requires : tie.Need-member-requires Inv-loop μ-loop
+member-requires c κs = search needs
 
 size-from-u16-requires : tie.Need-size-from-u16-requires Inv-loop μ-loop
 size-from-u16-requires c κs = search needs
@@ -42,37 +40,55 @@ server-broken-requires : tie.Need-server-broken-requires Inv-loop μ-loop
 server-broken-requires c κs = search needs
 
 returns : tie.Need-returns Inv-loop μ-loop
-unfolding use-at
 returns c =
-    let k = c .before .before .before .before in
-    let a = k .before .before .before .args in
-    let y = k .loop .y in
-    let e : server-broken (a .cache) y ≡ true = sym (c .before .server-broken .ensures (a .cache) (k .before .before .outline-of .ensures) (rw (c .before .before .size-from-u16 .ensures .0))) ∙ c .if1 .taken in
-    sym (some-server-one 64 (server-broken (a .cache)) y (omega arith) e)
+    let k = c .before .before .before in
+    let l = k .before .before .loop in
+    let g = k .before .before .before .before in
+    let a = g .args .cache in
+    let y = k .member .result in
+    let used : getD (l .rest) (c .before .before .size-from-u16 .result) 0 ≡ use-at a y =
+    rw (c .before .before .size-from-u16 .ensures .0) (l .inv .1 a (g .pre) refl .waits y (k .member .ensures .0)) in
+    let e : server-broken a y ≡ true = sym (c .before .server-broken .ensures a (g .pre) used) ∙ c .if1 .taken in
+    sym (some-server-one 64 (server-broken a) y (k .member .ensures .1) e)
 
-add-y : tie.Need-add-y Inv-loop μ-loop
-add-y c = search needs
+mul-rest : tie.Need-mul-rest Inv-loop μ-loop
+mul-rest c = search needs
+
+array-write-rest : tie.Need-array-write-rest Inv-loop μ-loop
+array-write-rest c = search needs
+
+cut-requires : tie.Need-cut-requires Inv-loop μ-loop
+cut-requires c κs = search needs
 
 loop-less : tie.Need-loop-less Inv-loop μ-loop
-loop-less c = search needs
+loop-less c =
+    let k = c .before .before .before .before in
+    omega (arith, ap (members 64) (c .cut .ensures), members-cut 64 (k .before .before .loop .left) (k .member .result) (k .member .ensures .1) (k .member .ensures .0))
 
 loop-again : tie.Need-loop-again Inv-loop μ-loop
-unfolding some-server use-at
 loop-again c =
     let k = c .before .before .before .before in
-    let y = k .loop .y in (
-      search needs,
-      search needs,
-      λ s l u.
-          let e : server-broken s y ≡ false = sym (c .before .server-broken .ensures s l (rw (c .before .before .size-from-u16 .ensures .0, u))) ∙ c .if1 .left in
-          rw (add-one y, e) (k .loop .inv .2 s l u),
+    let l = k .before .before .loop in
+    let y = k .member .result in
+    let at = c .before .before .before .size-from-u16 in (
+      length-set (l .rest) (at .result) 0 ∙ l .inv .0,
+      λ s o u.
+          let i = l .inv .1 s o u in
+          let used : getD (l .rest) (at .result) 0 ≡ use-at s y = rw (at .ensures .0) (i .waits y (k .member .ensures .0)) in
+          let e : server-broken s y ≡ false = sym (c .before .before .server-broken .ensures s o used) ∙ c .before .if1 .left in
+          rw (c .cut .ensures, at .ensures .0) (looked-next s (l .left) (l .rest) y i (k .member .ensures .0) (k .member .ensures .1) e),
     )
+
+some-used-requires : tie.Need-some-used-requires Inv-loop μ-loop
+some-used-requires c κs = search needs
 
 returns-2 : tie.Need-returns-2 Inv-loop μ-loop
 returns-2 c =
-    let l = c .before .loop in
-    let e : l .y ≡ 64 = omega arith in
-    sym (rw e at (l .inv .2 (c .before .before .before .before .args .cache) (c .before .before .before .outline-of .ensures) refl))
+    let l = c .before .before .before .loop in
+    let g = c .before .before .before .before .before in
+    let a = g .args .cache in
+    let z : l .left ≡ 0 = omega arith in
+    c .some-used .ensures ∙ looked-last a (l .rest) (rw z at (l .inv .1 a (g .pre) refl))
 
 pub servers-broken-spec : {M : Type 1} → statement M
 servers-broken-spec =
@@ -80,14 +96,17 @@ servers-broken-spec =
     (tie.spec
     Inv-loop
     μ-loop
-    outline-of-requires
     loop-holds
+    member-requires
     size-from-u16-requires
     mul-server-broken
     array-read-server-broken
     server-broken-requires
     returns
-    add-y
+    mul-rest
+    array-write-rest
+    cut-requires
     loop-less
     loop-again
+    some-used-requires
     returns-2)

@@ -1,8 +1,8 @@
--- `online::scan::member` meets its contract. Assumes nothing.
+-- `online::state::member` meets its contract. Assumes nothing.
 use borrow.Author.Needs.{needs}
 use Rattle.online.specs.Walk.{lowest-member}
-use Rattle.online.proofs.scan.member.Statement.{statement}
-use Rattle.online.proofs.scan.member.Tie as tie
+use Rattle.online.proofs.state.member.Statement.{statement}
+use Rattle.online.proofs.state.member.Tie as tie
 
 lowest-requires : tie.Need-lowest-requires
 lowest-requires c κs = search needs
