@@ -5,7 +5,7 @@ use crate::small::previous;
 use crate::small::second;
 use crate::small::server;
 use crate::small::since;
-use crate::small::wide;
+use base::widths::u64_from_u32;
 use prices::Prices;
 use std::num::wrapping_add_u64;
 
@@ -85,7 +85,7 @@ fn holds(servers: &[u16; 8], n: usize, marks: u32, y: u16, k: usize) -> bool {
 
 // What it costs to hold from one second to another.
 pub(crate) fn held(prices: Prices, from: u32, to: u32) -> u64 {
-    wide(prices.hold) * wide(since(from, to))
+    u64_from_u32(prices.hold) * u64_from_u32(since(from, to))
 }
 
 // What the mark of request k + 1 costs by itself.

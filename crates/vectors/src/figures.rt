@@ -10,7 +10,7 @@ use crate::say;
 use crate::small::after;
 use crate::small::previous;
 use crate::small::second;
-use crate::small::wide;
+use base::widths::u64_from_u32;
 use prices::Prices;
 use prices::of_class;
 use std::num::wrapping_add_u64;
@@ -90,7 +90,7 @@ fn say_rows(rows: &[u32; 64], n: u32) {
     let end = 4 * n as usize;
     for i in 0..64 {
         if i < end {
-            say::number(wide(rows[i]));
+            say::number(u64_from_u32(rows[i]));
         }
     }
     say::end_line();

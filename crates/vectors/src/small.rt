@@ -26,12 +26,6 @@ pub(crate) fn after(k: usize) -> usize {
     k + 1
 }
 
-pub(crate) fn wide(x: u32) -> u64
-    ensures { λ r. ⌜ (r ≡ x) × (r < 4294967296) ⌝ }
-{
-    x as u64
-}
-
 // The seconds from one to another.
 pub(crate) fn since(from: u32, to: u32) -> u32 {
     if to < from {

@@ -11,6 +11,7 @@ use crate::run::least_given;
 use crate::run::planned;
 use crate::run::written;
 use crate::say;
+use base::widths::size_from_u32;
 use prices::Prices;
 use prices::of_class;
 use prices::window;
@@ -45,10 +46,6 @@ fn half(x: u16) -> u8 {
         return 0;
     }
     x as u8
-}
-
-fn size(x: u32) -> usize {
-    x as usize
 }
 
 fn more(x: u64, agrees: bool) -> u64 {
@@ -236,7 +233,14 @@ fn trial(t: Tally, x: u32, class: u8, i: u32) -> Tally {
     let mut servers = [0u16; 8];
     let count = 1 + i % 4;
     draw(x, apart(class), count, &mut seconds, &mut servers);
-    judged(t, class, byte(count), size(i / 4 % 8), &seconds, &servers)
+    judged(
+        t,
+        class,
+        byte(count),
+        size_from_u32(i / 4 % 8),
+        &seconds,
+        &servers,
+    )
 }
 
 fn say_tally(t: Tally) {

@@ -5,21 +5,21 @@ use native.Mathlib.Omega.{arith}
 use Rattle.vectors.proofs.brute.held.Statement.{statement}
 use Rattle.vectors.proofs.brute.held.Tie as tie
 
-wide-requires : tie.Need-wide-requires
-wide-requires c κs = search needs
+u64-from-u32-requires : tie.Need-u64-from-u32-requires
+u64-from-u32-requires c κs = search needs
 
 since-requires : tie.Need-since-requires
 since-requires c κs = search needs
 
-wide-requires-2 : tie.Need-wide-requires-2
-wide-requires-2 c κs = search needs
+u64-from-u32-requires-2 : tie.Need-u64-from-u32-requires-2
+u64-from-u32-requires-2 c κs = search needs
 
 mul-result : tie.Need-mul-result
 mul-result c =
-    omega (arith, mul-le-mul {n₁ = c .before .before .wide .result} {m₁ = c .wide2 .result} {n₂ = 4294967295} {m₂ = 4294967295} (omega arith) (omega arith))
+    omega (arith, mul-le-mul {n₁ = c .before .before .u64-from-u32 .result} {m₁ = c .u64-from-u322 .result} {n₂ = 4294967295} {m₂ = 4294967295} (omega arith) (omega arith))
 
 returns : tie.Need-returns
 returns c = search needs
 
 pub held-spec : {M : Type 1} → statement M
-held-spec = tie.close (tie.spec wide-requires since-requires wide-requires-2 mul-result returns)
+held-spec = tie.close (tie.spec u64-from-u32-requires since-requires u64-from-u32-requires-2 mul-result returns)

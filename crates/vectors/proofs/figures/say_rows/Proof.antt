@@ -22,14 +22,14 @@ mul-end c = search needs
 loop-holds : tie.Need-loop-holds Inv-loop μ-loop
 loop-holds c = search needs
 
-mul-wide : tie.Need-mul-wide Inv-loop μ-loop
-mul-wide c = search needs
+mul-u64-from-u32 : tie.Need-mul-u64-from-u32 Inv-loop μ-loop
+mul-u64-from-u32 c = search needs
 
-element-copy-out-wide : tie.Need-element-copy-out-wide Inv-loop μ-loop
-element-copy-out-wide c = search needs
+element-copy-out-u64-from-u32 : tie.Need-element-copy-out-u64-from-u32 Inv-loop μ-loop
+element-copy-out-u64-from-u32 c = search needs
 
-wide-requires : tie.Need-wide-requires Inv-loop μ-loop
-wide-requires c κs = search needs
+u64-from-u32-requires : tie.Need-u64-from-u32-requires Inv-loop μ-loop
+u64-from-u32-requires c κs = search needs
 
 number-requires : tie.Need-number-requires Inv-loop μ-loop
 number-requires c κs = search needs
@@ -59,9 +59,9 @@ say-rows-spec =
     text-requires
     mul-end
     loop-holds
-    mul-wide
-    element-copy-out-wide
-    wide-requires
+    mul-u64-from-u32
+    element-copy-out-u64-from-u32
+    u64-from-u32-requires
     number-requires
     add-i
     loop-less
