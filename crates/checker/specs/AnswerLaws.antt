@@ -22,7 +22,6 @@ use Rattle.model.specs.RowForm.{rows-of}
 use Rattle.model.specs.Checking.{schedule-conditions, check-cost}
 use Rattle.model.specs.CheckingLaws.{accepts-iff}
 use Rattle.model.specs.CostBound.{hold-seconds, transfer-count}
-use Rattle.checker.specs.declared.Checked.{Checked}
 use Rattle.checker.specs.declared.Checked.the-variants as answer
 use Rattle.checker.specs.Answers.{check-conditions, check-verdict-of, checked, check-answer}
 use Rattle.checker.specs.Quick.{schedule-tests}

@@ -13,7 +13,7 @@ use Rattle.model.specs.Sums.{sum, total}
 use Rattle.model.specs.SumLaws.{sum-le, sum-same, sum-add, sum-scale, sum-swap, total-append}
 use Rattle.model.specs.CountLaws.{one-server, sum-at-most, total-zero, length-total}
 use Rattle.model.specs.Requests.{Requests, Rising, Within}
-use Rattle.model.specs.Schedule.{Row, hold, move, transfer, length-of, is-transfer, cost-of}
+use Rattle.model.specs.Schedule.{Row, move, transfer, length-of, is-transfer, cost-of}
 use Rattle.model.specs.Marking.{Mark, K, S, keeps, begin, spans, covered, holds, own, gap, cost, begins-run, hold-rows, all-holds, transfers, rows-from, Valid}
 use Rattle.model.specs.LegalLaws.{kept-from}
 use Rattle.model.specs.HolderLaws.{new-holder}

@@ -16,7 +16,7 @@ use Rattle.base.specs.declared.Verdict.{Verdict}
 use Rattle.base.specs.declared.Verdict.the-variants.{Passed, Refused}
 use Rattle.log.specs.Fields.{request-count}
 use Rattle.log.specs.Conditions.{log-conditions, verdict-of, Accepted}
-use Rattle.model.specs.Requests.{Requests, requests, Within}
+use Rattle.model.specs.Requests.{Requests, Within}
 use Rattle.model.specs.Marking.{Mark, K, S, legal, rows, Valid}
 use Rattle.model.specs.TableRows.{Tabled}
 use Rattle.model.specs.Plan.{plan, plan-cost, plan-rows, Agree}

@@ -8,7 +8,6 @@ use Rattle.prices.specs.declared.Prices.{Prices}
 use Rattle.model.specs.Requests.{Requests, previous}
 use Rattle.model.specs.RequestLaws.{previous-some}
 use Rattle.model.specs.Marking.{gap}
-use Rattle.model.specs.TableLaws.{span}
 use Rattle.model.specs.TableRows.{row, next-D, next-C}
 use Rattle.planner.specs.declared.table.Terms.{Terms}
 use Rattle.planner.specs.Terms.{index, span-from, terms-of, cheaper}

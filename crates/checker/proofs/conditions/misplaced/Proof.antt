@@ -2,7 +2,6 @@
 use borrow.Author.Needs.{needs}
 use mathlib.Core.Path.{sym, ap, _∙_}
 use mathlib.Core.Bool.{not}
-use Rattle.model.specs.Checking.{misplaced}
 use Rattle.checker.specs.QuickSteps.{misplaced-first, misplaced-read}
 use Rattle.checker.proofs.conditions.misplaced.Statement.{statement}
 use Rattle.checker.proofs.conditions.misplaced.Tie as tie

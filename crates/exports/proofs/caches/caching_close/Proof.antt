@@ -2,8 +2,6 @@
 use borrow.Author.Needs.{needs}
 use Rattle.exports.proofs.caches.caching_close.Statement.{statement}
 use Rattle.exports.proofs.caches.caching_close.Tie as tie
-use Rattle.exports.proofs.caches.of_close.Reads as of-close-reads
-use Rattle.online.proofs.Cache.close.Reads as close-reads
 
 close-requires : tie.Need-close-requires
 close-requires c κs = search needs

@@ -2,8 +2,6 @@
 use borrow.Author.Needs.{needs}
 use Rattle.exports.proofs.caches.caching_running.Statement.{statement}
 use Rattle.exports.proofs.caches.caching_running.Tie as tie
-use Rattle.exports.proofs.caches.of_running.Reads as of-running-reads
-use Rattle.online.proofs.Cache.running.Reads as running-reads
 
 running-requires : tie.Need-running-requires
 running-requires c κs = search needs

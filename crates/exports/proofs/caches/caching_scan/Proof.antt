@@ -2,9 +2,6 @@
 use borrow.Author.Needs.{needs}
 use Rattle.exports.proofs.caches.caching_scan.Statement.{statement}
 use Rattle.exports.proofs.caches.caching_scan.Tie as tie
-use Rattle.exports.proofs.caches.of_scan.Reads as of-scan-reads
-use Rattle.exports.proofs.caches.running_of.Reads as running-of-reads
-use Rattle.online.proofs.Cache.scan.Reads as scan-reads
 
 scan-requires : tie.Need-scan-requires
 scan-requires c κs = search needs

@@ -2,8 +2,6 @@
 use borrow.Author.Needs.{needs}
 use Rattle.exports.proofs.caches.caching_start.Statement.{statement}
 use Rattle.exports.proofs.caches.caching_start.Tie as tie
-use Rattle.exports.proofs.caches.of_start.Reads as of-start-reads
-use Rattle.online.proofs.Cache.start.Reads as start-reads
 
 start-requires : tie.Need-start-requires
 start-requires c κs = search needs

@@ -2,8 +2,6 @@
 use borrow.Author.Needs.{needs}
 use Rattle.exports.proofs.caches.of_running.Statement.{statement}
 use Rattle.exports.proofs.caches.of_running.Tie as tie
-use Rattle.exports.proofs.accepted.Reads as accepted-reads
-use Rattle.exports.proofs.refused.Reads as refused-reads
 
 enum-known-outcome : tie.Need-enum-known-outcome
 enum-known-outcome c = search needs

@@ -2,8 +2,6 @@
 use borrow.Author.Needs.{needs}
 use Rattle.exports.proofs.caches.of_start.Statement.{statement}
 use Rattle.exports.proofs.caches.of_start.Tie as tie
-use Rattle.exports.proofs.accepted.Reads as accepted-reads
-use Rattle.exports.proofs.refused.Reads as refused-reads
 
 enum-told : tie.Need-enum-told
 enum-told c = search needs

@@ -13,7 +13,6 @@ use Prim.Native.Nat.{ℕ, suc, _+_, _≤_}
 use borrow.Author.Needs.{needs}
 use Rattle.planner.proofs.costs.costs_of.Statement.{statement}
 use Rattle.planner.proofs.costs.costs_of.Tie as tie
-use Rattle.planner.proofs.costs.costs_of.Reads as reads
 
 size-from-u16-requires : tie.Need-size-from-u16-requires
 size-from-u16-requires c κs = search needs

@@ -6,7 +6,6 @@ use native.Mathlib.Omega.{arith}
 use borrow.Author.Needs.{needs}
 use Rattle.planner.proofs.planning.plan_of.Statement.{statement}
 use Rattle.planner.proofs.planning.plan_of.Tie as tie
-use Rattle.planner.proofs.planning.plan_of.Reads as reads
 
 slice-aggregate-fill : tie.Need-slice-aggregate-fill
 slice-aggregate-fill c = search needs
