@@ -15,7 +15,7 @@ use Rattle.log.specs.declared.ReadOutcome.the-variants as read
 use Rattle.log.specs.declared.Written.the-variants as write
 use Rattle.log.specs.Fields.{header-of, request-count, length-for, seconds-of, servers-of}
 use Rattle.log.specs.Contents.{Contents, contents, decode, encode}
-use Rattle.log.specs.Ranges.{Proper, Sixteen}
+use Rattle.log.specs.Ranges.{Proper}
 use Rattle.log.specs.Answers.{read-verdict, decoded, seconds-left, servers-left, write-verdict, written, log-left}
 use Rattle.log.specs.AcceptedLaws.{accepted-sound, seconds-length, servers-length}
 use Rattle.log.specs.EncodeLaws.{encode-length, encode-count, encode-header, encode-seconds, encode-servers}
