@@ -1,11 +1,11 @@
--- Crate report. What a reader believes:
-pub mod Sizes
+-- The sheet. Definitions, which a reader believes:
 pub mod Text
 pub mod Live
 pub mod Sheet
 pub mod Output
+pub mod Sizes
 pub mod Replies
--- and the laws of these:
+-- Laws, which are proved of them:
 pub mod TextLaws
 pub mod LiveLaws
 pub mod Alike

@@ -1,10 +1,10 @@
--- Crate text. What a reader believes:
+-- Printed lines. Definitions, which a reader believes:
 pub mod Decimal
 pub mod Lines
 pub mod RefusalText
 pub mod Page
 pub mod Answers
--- and the laws of these:
+-- Laws, which are proved of them:
 pub mod DecimalLaws
 pub mod PageLaws
 pub mod RefusalTextLaws
