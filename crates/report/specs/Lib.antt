@@ -1,11 +1,12 @@
--- The sheet. Definitions, which a reader believes:
+-- Crate report: the sheet.
+-- What a reader believes: the definitions.
 pub mod Text
 pub mod Live
 pub mod Sheet
 pub mod Output
 pub mod Sizes
 pub mod Replies
--- Laws, which are proved of them:
+-- What is proved of them.
 pub mod TextLaws
 pub mod LiveLaws
 pub mod Alike
