@@ -9,6 +9,7 @@ pub mod Replies
 -- What is proved of them.
 pub mod TextLaws
 pub mod LiveLaws
+pub mod LiveCalls
 pub mod Alike
 pub mod SheetLaws
 pub mod SheetLength
