@@ -1,20 +1,38 @@
--- The sheet's least column: at each request it is the cost that the planner answers for the log cut there (01's 'What demand 3 compares').
+-- The columns of the sheet, at each request. The least cost is what the planner answers for the log cut there (01's 'What demand 3 compares'). The live
+-- mark and the running cost are what the online cache answers when it is handed the requests up to there, and the cost is within three times the least.
 use mathlib.Core.List.{List}
-use mathlib.Core.Path.{_≡_, sym, ap, _∙_}
-use Prim.Native.Nat.{ℕ, _-_, _≤_}
+use mathlib.Core.Path.{_≡_, refl, sym, ap, _∙_}
+use Prim.Native.Nat.{ℕ, zero, suc, _-_, _*_, _≤_, _<_}
 use native.Mathlib.Omega.{arith}
-use lib.ListN.{length, getD}
-use Rattle.log.specs.Fields.{request-count}
+use lib.ListN.{length, getD, replicate}
+use Rattle.base.specs.Lists.{build, build-length, build-at}
+use Rattle.base.specs.declared.Verdict.the-variants.{Passed}
+use Rattle.log.specs.Fields.{setup-of, server-count, home-of, request-count, seconds-of, servers-of, header-of}
 use Rattle.log.specs.Conditions.{Accepted}
-use Rattle.log.specs.Contents.{cut}
+use Rattle.log.specs.Contents.{Contents, decode, first-requests, cut}
+use Rattle.log.specs.Cutting.{cut-decodes}
+use Rattle.log.specs.AcceptedLaws.{seconds-length, servers-length}
+use Rattle.model.specs.Requests.{requests}
 use Rattle.model.specs.LogRequests.{requests-in, prices-in}
+use Rattle.model.specs.LogRequestLaws.{cut-prices}
 use Rattle.model.specs.Plan.{plan-cost}
 use Rattle.planner.specs.declared.Planned.the-variants as planned′
 use Rattle.planner.specs.Answers.{planned-rows, rows-of-plan, plan-verdict, planned, least-costs}
+use Rattle.online.specs.declared.Scanned.{Scanned}
+use Rattle.online.specs.Rules.{running}
+use Rattle.online.specs.Answers.{start-verdict, scanned}
+use Rattle.bounds.specs.Calls.{Call, run, verdicts, requests-of}
+use Rattle.bounds.specs.Progress.{begun, taken}
+use Rattle.bounds.specs.Claim.{Claim, served, served-count}
 use Rattle.report.specs.declared.Entry.{Entry}
+use Rattle.report.specs.declared.live.Turn.{Turn}
+use Rattle.report.specs.Live.{scans, state-after, live-mark, live-cost, opened, live-marks, running-costs}
+use Rattle.report.specs.LiveLaws.{Runs, starts, goes-on, turn-next}
+use Rattle.report.specs.LiveCalls.{scans-passed, request, scans-taken, requests-taken}
+use Rattle.report.specs.Replies.{outcome-letter, outcome-cost, turn}
 use Rattle.report.specs.Sheet.{columns-of}
 use Rattle.report.specs.Text.{entry-of}
-use Rattle.guarantees.specs.Demand3.{planned-best}
+use Rattle.guarantees.specs.Demand3.{planned-best, online-within-three}
 
 -- what line k of a log's sheet says, from 1
 abbrev pub line-of : List ℕ → ℕ → Entry
@@ -42,4 +60,95 @@ least-column log k a least most =
       least-is = column;
       answers = λ marks rows h l.
           best .gives marks rows h l ∙ ap (λ (cost : ℕ). planned′.Plan cost (length (planned-rows (cut k log)))) (sym column);
+    }
+
+-- ---- the live columns
+
+-- the first k requests of a log, as scan calls after a start with what it says
+abbrev pub calls-of : List ℕ → ℕ → List Call
+calls-of log k = scans (seconds-of log) (servers-of log) k
+
+-- what the call of request k answers, after those before it
+abbrev pub answer-of : List ℕ → ℕ → Scanned
+answer-of log k = scanned (run (opened log) (calls-of log (k - 1))) (line-of log k .second) (line-of log k .server)
+
+pub record Live-columns (log : List ℕ) (k : ℕ) : Type 0 where
+  -- neither the start nor any of the first k calls is refused
+  pub ready : start-verdict (setup-of log) ≡ Passed
+  pub passes : verdicts (opened log) (calls-of log k) ≡ replicate k Passed
+  -- the line has the mark and the running cost that call k answers, which is the cost of the state after all k
+  pub mark-is : line-of log k .live ≡ outcome-letter (answer-of log k .outcome)
+  pub cost-is : line-of log k .cost ≡ outcome-cost (answer-of log k .outcome)
+  pub running-is : line-of log k .cost ≡ running (run (opened log) (calls-of log k))
+  -- demand 3's claim holds of these calls, and what they take are the requests of the cut log
+  pub claimed : Claim (setup-of log) (opened log) (calls-of log k)
+  pub taken-are : served (setup-of log) (opened log) (calls-of log k) ≡ requests-in (cut k log)
+  pub all-taken : served-count (setup-of log) (opened log) (calls-of log k) ≡ k
+  -- so the running cost is at least the least cost that the line has, and at most three times that
+  pub no-less : line-of log k .least ≤ line-of log k .cost
+  pub no-more : line-of log k .cost ≤ 3 * line-of log k .least
+
+module _ (log : List ℕ) (k : ℕ) (a : Accepted log) (h : k ≤ request-count log) where
+  passed : verdicts (opened log) (calls-of log k) ≡ replicate k Passed
+  unfolding Runs
+  passed = scans-passed (opened log) (seconds-of log) (servers-of log) k (λ i l. goes-on log a i (omega arith))
+
+  claim-of : Claim (setup-of log) (opened log) (calls-of log k)
+  unfolding opened
+  claim-of = online-within-three (setup-of log) (starts log a) (calls-of log k)
+
+  list-of : taken (server-count log) begun (calls-of log k) ≡ build k (request (seconds-of log) (servers-of log))
+  list-of = scans-taken (server-count log) begun (seconds-of log) (servers-of log) k (sym (claim-of .refused) ∙ passed)
+
+  served-is : served (setup-of log) (opened log) (calls-of log k) ≡ requests-in (cut k log)
+  unfolding decode first-requests header-of requests-in
+  served-is =
+      ap (requests-of (home-of log)) list-of
+      ∙ requests-taken (home-of log) k (seconds-of log) (servers-of log) (omega (arith, seconds-length log)) (omega (arith, servers-length log))
+      ∙ sym (ap (λ (c : Contents). requests (c .header .home) (c .seconds) (c .servers)) (cut-decodes log k a h))
+
+  count-is : served-count (setup-of log) (opened log) (calls-of log k) ≡ k
+  count-is = ap length list-of ∙ build-length k (request (seconds-of log) (servers-of log))
+
+  -- the claim's least cost is that of the cut log's plan
+  least-of : claim-of .least ≡ plan-cost (prices-in (cut k log)) (requests-in (cut k log)) k
+  unfolding prices-in
+  least-of = claim-of .is-planned ∙ rw (served-is, count-is, cut-prices log k a h)
+
+module _ (log : List ℕ) (i : ℕ) (a : Accepted log) (h : i < request-count log) where
+  -- the line of request i, from 0
+  turn-is : turn (run (opened log) (calls-of log i)) (getD (seconds-of log) i 0) (getD (servers-of log) i 0)
+      ≡ record {
+        cache = run (opened log) (calls-of log (suc i));
+        mark = live-mark (opened log) (seconds-of log) (servers-of log) i;
+        cost = live-cost (opened log) (seconds-of log) (servers-of log) i;
+      }
+  unfolding state-after
+  turn-is = turn-next (opened log) (seconds-of log) (servers-of log) i (run (opened log) (calls-of log i)) refl (goes-on log a i h)
+
+-- THE SHEET'S LIVE COLUMNS
+pub live-columns : (log : List ℕ) (k : ℕ) → Accepted log → 1 ≤ k → k ≤ request-count log → Live-columns log k
+unfolding entry-of columns-of live-marks running-costs live-cost state-after turn
+live-columns log zero a least most = absurd (omega arith)
+live-columns log (suc i) a least most =
+    let e : suc i - 1 ≡ i = omega arith in
+    let mark : getD (live-marks log) i 0 ≡ live-mark (opened log) (seconds-of log) (servers-of log) i =
+    build-at (request-count log) (live-mark (opened log) (seconds-of log) (servers-of log)) i 0 most in
+    let cost : getD (running-costs log) i 0 ≡ live-cost (opened log) (seconds-of log) (servers-of log) i =
+    build-at (request-count log) (live-cost (opened log) (seconds-of log) (servers-of log)) i 0 most in
+    let t = turn-is log i a most in
+    let claim = claim-of log (suc i) a most in
+    let column : claim .least ≡ line-of log (suc i) .least = least-of log (suc i) a most ∙ sym (least-column log (suc i) a least most .least-is) in
+    let paid : line-of log (suc i) .cost ≡ running (run (opened log) (calls-of log (suc i))) = rw e cost in
+    record {
+      ready = starts log a;
+      passes = passed log (suc i) a most;
+      mark-is = rw e (mark ∙ sym (ap (λ (x : Turn). x .mark) t));
+      cost-is = rw e (cost ∙ sym (ap (λ (x : Turn). x .cost) t));
+      running-is = paid;
+      claimed = claim;
+      taken-are = served-is log (suc i) a most;
+      all-taken = count-is log (suc i) a most;
+      no-less = omega (arith, claim .no-less, column, paid);
+      no-more = omega (arith, claim .no-more, column, paid);
     }

@@ -2,6 +2,7 @@
 use mathlib.Core.Bool.{Bool, true, false}
 use mathlib.Core.List.{List, [], _∷_}
 use Prim.Native.Nat.{ℕ, suc}
+use Prim.Native.String.{String}
 use lib.Dec.{eqb}
 use lib.ListN.{length, replicate}
 use Rattle.base.specs.Choice.{pick, both}
@@ -26,6 +27,8 @@ use Rattle.online.specs.declared.ScanOutcome.{ScanOutcome}
 use Rattle.online.specs.declared.ScanOutcome.the-variants as scan
 use Rattle.online.specs.Rules.{running}
 use Rattle.online.specs.Answers.{started, scanned}
+use Rattle.text.specs.Lines.{ascii}
+use Rattle.report.specs.Output.{output}
 
 -- the requests of a week: what its start is given, seconds and servers
 pub record Given : Type 0 where
@@ -37,11 +40,13 @@ pub record Given : Type 0 where
 -- a tied week: how many legal markings have a cost
 -- a checked list of rows: number and place of a refusal and 0, or 0, 0 and the cost
 -- a log: the verdict's number and place
+-- a printed week: what the program writes for its log
 pub data Week : Type 0 where
   planned : Given → (least running marks live rows : List ℕ) → Week
   checked : Given → (rows : List ℕ) → (number place cost : ℕ) → Week
   logged : Given → (number place : ℕ) → Week
   tied : Given → (cost count : ℕ) → Week
+  printed : Given → (text : String) → Week
 
 -- two lists of numbers are equal
 unfoldable pub same : List ℕ → List ℕ → Bool
@@ -115,6 +120,7 @@ right (tied g c n) =
     let q = requests-given g in
     let k = length (g .seconds) in
     eqb (total (λ m. pick (eqb (cost (prices-of (g .setup .«class»)) q m k) c) 1 0) (markings q k)) n
+right (printed g text) = same (output (log-of g)) (ascii text)
 
 -- every week of a table is right
 unfoldable pub all-right : List Week → Bool

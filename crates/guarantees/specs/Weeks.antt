@@ -21,12 +21,20 @@ use Rattle.model.specs.Plan.{put-mark, markings, first-least, least-of, plan, p
 use Rattle.model.specs.Checking.{row-count, misfits, misplaced, row-conditions, backed, copy-condition, serve-condition, schedule-conditions, check-cost}
 use Rattle.model.specs.LogRequests.{requests-in, prices-in}
 use Rattle.checker.specs.Answers.{check-conditions, check-verdict-of, checked as checked-by, check-answer}
-use Rattle.planner.specs.Answers.{letter}
+use Rattle.planner.specs.Answers.{letter, marks-of, planned-rows, least-costs}
 use Rattle.online.specs.Servers.{across, set-of, some-server}
 use Rattle.online.specs.Rules.{class-prices, window-of, copy-at, use-at, fresh, lasts, kept, uses, stands as stands-after, next-use, seconds, accept, running}
 use Rattle.online.specs.Conditions.{any-of, server-broken, broken, scan-conditions}
 use Rattle.online.specs.Answers.{start-verdict, started-by, started, scan-verdict, scanned-by, scanned, mark-outcome}
-use Rattle.guarantees.specs.Week.{Given, Week, planned, checked, logged, tied, same, as-numbers, answer-numbers, requests-given, live-letter, least-so-far, plan-letters, plan-numbers, costs-from, letters-from, log-of, right, all-right}
+use Rattle.bounds.specs.Calls.{after as after-call, run}
+use Rattle.text.specs.Decimal.{digits, decimal}
+use Rattle.text.specs.Lines.{ascii, line-end, line}
+use Rattle.text.specs.RefusalText.{list-word, refusal-text}
+use Rattle.report.specs.Text.{heading, entry-line, entry-lines, last-line, sheet-text, entry-of}
+use Rattle.report.specs.Live.{scans, state-after, live-mark, live-cost, opened, live-marks, running-costs}
+use Rattle.report.specs.Sheet.{columns-of, sheet-of}
+use Rattle.report.specs.Output.{output-by, output}
+use Rattle.guarantees.specs.Week.{Given, Week, planned, checked, logged, tied, printed, same, as-numbers, answer-numbers, requests-given, live-letter, least-so-far, plan-letters, plan-numbers, costs-from, letters-from, log-of, right, all-right}
 
 -- K and S
 abbrev k : ℕ
@@ -41,6 +49,7 @@ given class′ count ts xs =
 
 -- A no requests; B 002's example times ten; C, and that two other markings cost the same; D; E; F class 6
 -- G a cycle with no copy behind it, and with one; H the last second; I equal seconds
+-- and what the program prints for A, C and I
 unfoldable pub weeks : List Week
 weeks =
     planned (given 0 2 [] []) (0 ∷ []) (0 ∷ []) [] [] []
@@ -63,6 +72,10 @@ weeks =
     ∷ logged (given 0 2 (4000000 ∷ []) (0 ∷ [])) 0 0
     ∷ logged (given 0 2 (4000001 ∷ []) (0 ∷ [])) 12 1
     ∷ logged (given 0 2 (5 ∷ 5 ∷ []) (0 ∷ 0 ∷ [])) 13 2
+    ∷ printed (given 0 2 [] []) "scan second station plan live least bill\nrows 0\n"
+    ∷ printed (given 0 3 (1 ∷ 2 ∷ 11 ∷ 12 ∷ []) (1 ∷ 2 ∷ 1 ∷ 0 ∷ []))
+    "scan second station plan live least bill\n1 1 1 S S 11 11\n2 2 2 S S 22 23\n3 11 1 K K 31 50\n4 12 0 K S 42 62\nrows 4\n"
+    ∷ printed (given 0 2 (5 ∷ 5 ∷ []) (0 ∷ 0 ∷ [])) "refused input 13 place 2\n"
     ∷ []
 
 -- a week of our own, where 002's table would take K at the last request for a cost that 01's marks do not allow
@@ -74,7 +87,7 @@ own-weeks =
 
 -- every line of the table holds
 pub weeks-right : all-right (weeks ++ own-weeks) ≡ true
-unfolding weeks own-weeks all-right right same as-numbers answer-numbers requests-in prices-in check-conditions check-verdict-of checked-by check-answer requests-given letter live-letter least-so-far plan-letters plan-numbers costs-from letters-from log-of build first each has put lowest classes prices-of window version class-of server-count home-of request-count requests-offset id-offset total-length written-sum length-for seconds-of servers-of sum-from sum-of setup-conditions header-conditions before request-conditions log-conditions verdict-of head request-bytes requests-bytes body encode sum total requests latest previous length-of is-transfer cost-of reach arrive through reached rounds standing stands numbers flat row-of row-at rows-upto rows-of fits earlier follows keeps some? legal gap begin after spans any covered holds own cost begins-run run-end hold-rows all-holds transfers source rows-from rows put-mark markings first-least least-of plan plan-cost plan-rows row-count misfits misplaced row-conditions backed copy-condition serve-condition schedule-conditions check-cost across set-of some-server class-prices window-of copy-at use-at fresh lasts kept uses stands-after next-use seconds accept running any-of server-broken broken scan-conditions start-verdict started-by started scan-verdict scanned-by scanned mark-outcome
+unfolding weeks own-weeks all-right right same as-numbers answer-numbers requests-in prices-in check-conditions check-verdict-of checked-by check-answer requests-given letter live-letter least-so-far plan-letters plan-numbers costs-from letters-from log-of build first each has put lowest classes prices-of window version class-of server-count home-of request-count requests-offset id-offset total-length written-sum length-for seconds-of servers-of sum-from sum-of setup-conditions header-conditions before request-conditions log-conditions verdict-of head request-bytes requests-bytes body encode sum total requests latest previous length-of is-transfer cost-of reach arrive through reached rounds standing stands numbers flat row-of row-at rows-upto rows-of fits earlier follows keeps some? legal gap begin after spans any covered holds own cost begins-run run-end hold-rows all-holds transfers source rows-from rows put-mark markings first-least least-of plan plan-cost plan-rows row-count misfits misplaced row-conditions backed copy-condition serve-condition schedule-conditions check-cost across set-of some-server class-prices window-of copy-at use-at fresh lasts kept uses stands-after next-use seconds accept running any-of server-broken broken scan-conditions start-verdict started-by started scan-verdict scanned-by scanned mark-outcome marks-of planned-rows least-costs after-call run digits decimal ascii line-end line list-word refusal-text heading entry-line entry-lines last-line sheet-text entry-of scans state-after live-mark live-cost opened live-marks running-costs columns-of sheet-of output-by output
 weeks-right = refl
 
 -- the two windows that 01's 'Prices' names: of class 4 and of class 6

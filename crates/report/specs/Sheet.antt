@@ -2,6 +2,7 @@
 use mathlib.Core.List.{List, [], _∷_, _++_}
 use Prim.Native.Nat.{ℕ}
 use lib.ListN.{length}
+use Rattle.base.specs.Lent.{lent}
 use Rattle.base.specs.Refusals.{first, short}
 use Rattle.base.specs.declared.Verdict.{Verdict}
 use Rattle.log.specs.Fields.{request-count, seconds-of, servers-of}
@@ -21,3 +22,7 @@ sheet-of log = sheet-text (entry-of (columns-of log)) (request-count log) (lengt
 -- its conditions: the log's, then 31 for what is lent
 unfoldable pub sheet-verdict : List ℕ → ℕ → Verdict
 sheet-verdict log room = first (log-conditions log ++ (short (length (sheet-of log)) room ∷ []))
+
+-- what a lent text holds at the end
+abbrev pub text-left : List ℕ → List ℕ → List ℕ
+text-left log text = lent (sheet-verdict log (length text)) (sheet-of log) text

@@ -12,7 +12,7 @@ ghost use Rattle.planner.specs.Sizes.{places};
 ghost use Rattle.planner.specs.Answers.{marks-of, planned-rows, least-costs};
 ghost use Rattle.text.specs.Answers.{printed};
 ghost use Rattle.report.specs.Sizes.{sheet-room};
-ghost use Rattle.report.specs.Sheet.{sheet-of, sheet-verdict};
+ghost use Rattle.report.specs.Sheet.{sheet-of, sheet-verdict, text-left};
 ghost use Rattle.report.specs.Replies.{requests-read, rows-planned};
 use crate::SHEET_ROOM;
 use crate::lines::put_lines;
@@ -132,7 +132,7 @@ fn put_sheet(log: &[u8], text: &mut [u8]) -> usize
 // The sheet of a log and zeros after it; refused with 1 to 13 or 31, the text as it was.
 pub fn sheet(log: &[u8], text: &mut [u8]) -> Printed
     ensures { λ r. ⌜ r ≡ printed (sheet-verdict (now (log .entry)) (length (now (text .entry)))) (sheet-of (now (log .entry))) ⌝ }
-    ensures { λ _. ⌜ now (text .exit) ≡ lent (sheet-verdict (now (log .entry)) (length (now (text .entry)))) (sheet-of (now (log .entry))) (now (text .entry)) ⌝ }
+    ensures { λ _. ⌜ now (text .exit) ≡ text-left (now (log .entry)) (now (text .entry)) ⌝ }
 {
     let v = verdict(log);
     if let Verdict::Refused(r) = v {

@@ -2,6 +2,7 @@
 use mathlib.Core.List.{List, [], _∷_}
 use Prim.Native.Nat.{ℕ}
 use lib.ListN.{length}
+use Rattle.base.specs.Lent.{lent}
 use Rattle.base.specs.Refusals.{first, short}
 use Rattle.base.specs.declared.Verdict.{Verdict}
 use Rattle.base.specs.declared.Verdict.the-variants.{Passed, Refused}
@@ -16,3 +17,7 @@ room-verdict text room = first (short (length text) room ∷ [])
 unfoldable pub printed : Verdict → List ℕ → Printed
 printed Passed text = print.Length (length text)
 printed (Refused r) text = print.Refused r
+
+-- what a lent text holds at the end
+abbrev pub text-left : List ℕ → List ℕ → List ℕ
+text-left text o = lent (room-verdict text (length o)) text o

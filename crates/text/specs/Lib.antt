@@ -1,10 +1,11 @@
--- Crate text. What a reader believes:
+-- Crate text: printed lines.
+-- What a reader believes: the definitions.
 pub mod Decimal
 pub mod Lines
 pub mod RefusalText
 pub mod Page
 pub mod Answers
--- and the laws of these:
+-- What is proved of them.
 pub mod DecimalLaws
 pub mod PageLaws
 pub mod RefusalTextLaws

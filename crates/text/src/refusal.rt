@@ -2,8 +2,7 @@
 ghost use mathlib.Core.Path.{_≡_};
 ghost use Prim.Native.Nat.{_≤_};
 ghost use lib.ListN.{length, take};
-ghost use Rattle.base.specs.Lent.{lent};
-ghost use Rattle.text.specs.Answers.{room-verdict, printed};
+ghost use Rattle.text.specs.Answers.{room-verdict, printed, text-left};
 ghost use Rattle.text.specs.Page.{page, added};
 ghost use Rattle.text.specs.RefusalText.{list-word, refusal-text, refusal-room};
 use crate::Printed;
@@ -42,7 +41,7 @@ fn put_refusal(refusal: Refusal, text: &mut [u8]) -> usize
 // The one line of a refusal and zeros after it; refused with 31, the text as it was.
 pub fn refusal_line(refusal: Refusal, text: &mut [u8]) -> Printed
     ensures { λ r. ⌜ r ≡ printed (room-verdict (refusal-text refusal) (length (now (text .entry)))) (refusal-text refusal) ⌝ }
-    ensures { λ _. ⌜ now (text .exit) ≡ lent (room-verdict (refusal-text refusal) (length (now (text .entry)))) (refusal-text refusal) (now (text .entry)) ⌝ }
+    ensures { λ _. ⌜ now (text .exit) ≡ text-left (refusal-text refusal) (now (text .entry)) ⌝ }
 {
     let mut line = [0u8; REFUSAL_ROOM];
     let n = put_refusal(refusal, &mut line);
