@@ -17,7 +17,7 @@ use Rattle.model.specs.Once.{awaits-own, since-some, Claim, idle, claims, claim
 use Rattle.model.specs.Marking.{Mark, K, S, keeps, some?, legal, begin}
 use Rattle.model.specs.Table.{best}
 use Rattle.model.specs.Exchange.{best-free}
-use Rattle.model.specs.Demand.{spanned, spans-over, Proper, demand}
+use Rattle.model.specs.Demand.{spanned, spans-over, Keepable, demand}
 use Rattle.online.specs.Servers.{across}
 use Rattle.online.specs.ServerLaws.{across-one}
 use Rattle.bounds.specs.History.{mark, before, over, held, transfers, running-cost}
@@ -57,9 +57,9 @@ module _ (W : ℕ) (q : Requests) (count n : ℕ) (rising : Rising q n) (within 
       go (sent s m f) l = absurd (kept-sent e m)
 
   -- the marks are K only where there is one
-  pub mark-proper : Proper q n (mark W q)
-  unfolding Proper legal some?
-  mark-proper i h e = rw (kept-from i h e .1)
+  pub mark-keepable : Keepable q n (mark W q)
+  unfolding Keepable legal some?
+  mark-keepable i h e = rw (kept-from i h e .1)
 
   -- request i claims a server that holds over second τ, for a number v
   abbrev Claims : ℕ → ℕ → ℕ → Type 0
@@ -112,7 +112,7 @@ module _ (W : ℕ) (q : Requests) (count n : ℕ) (rising : Rising q n) (within 
       omega (
         arith,
         best-free p q n rising,
-        demand p q n rising (mark W q) mark-proper n (λ τ. across count (over W q n τ)) (omega arith) (λ τ a. spans-held τ)
+        demand p q n rising (mark W q) mark-keepable n (λ τ. across count (over W q n τ)) (omega arith) (λ τ a. spans-held τ)
             (λ l τ h e a b. some-held τ (omega arith) (omega (arith, rises-le rising (suc l) n h (omega arith)))),
       )
 

@@ -6,10 +6,9 @@ use Rattle.base.specs.declared.Verdict.{Verdict}
 use Rattle.base.specs.declared.Verdict.the-variants.{Passed, Refused}
 use Rattle.base.specs.Refusals.{Condition, first}
 use Rattle.log.specs.Fields.{server-count, request-count}
-use Rattle.log.specs.Conditions.{log-conditions}
-use Rattle.log.specs.Conditions as logs
+use Rattle.log.specs.Conditions.{log-conditions, Accepted}
 use Rattle.model.specs.LogRequests.{requests-in, prices-in}
-use Rattle.model.specs.Checking.{schedule-conditions, check-cost, Accepted}
+use Rattle.model.specs.Checking.{schedule-conditions, check-cost, Scheduled}
 use Rattle.checker.specs.declared.Checked.{Checked}
 use Rattle.checker.specs.declared.Checked.the-variants as answer
 
@@ -32,6 +31,6 @@ check-answer log ns = checked (check-verdict-of log ns) (check-cost (prices-in l
 
 -- an accepted log, rows that are accepted for its requests, and their cost
 pub record Answered (log ns : List ℕ) (v : ℕ) : Type 0 where
-  pub log-accepted : logs.Accepted log
-  pub rows-accepted : Accepted (server-count log) (requests-in log) (request-count log) ns
+  pub log-accepted : Accepted log
+  pub rows-accepted : Scheduled (server-count log) (requests-in log) (request-count log) ns
   pub cost-is : v ≡ check-cost (prices-in log) ns

@@ -9,9 +9,10 @@ use Rattle.prices.specs.declared.Prices.{Prices}
 use Rattle.model.specs.Requests.{Requests, Rising, Within}
 use Rattle.model.specs.Schedule.{Row, Feasible, cost-of}
 use Rattle.model.specs.RowForm.{well-formed}
-use Rattle.model.specs.Plan.{plan, plan-cost, plan-rows}
+use Rattle.model.specs.Marking.{Mark}
+use Rattle.model.specs.Plan.{plan, plan-cost, plan-rows, Agree, Planned}
 use Rattle.model.specs.MarkingRows.{rows-realize}
-use Rattle.model.specs.PlanLaws.{plan-planned}
+use Rattle.model.specs.PlanLaws.{plan-planned, plan-only}
 use Rattle.model.specs.PlanLeast.{plan-least}
 
 -- the plan of the first n requests, with servers below the count
@@ -33,3 +34,12 @@ optimal p count q n rising within =
       costs = r .costs p;
       none-less = plan-least p count q n rising within .none-less;
     }
+
+-- THE TIE SENTENCE: the plan is a legal marking of the least cost, and where another of that cost differs, at the latest such request the plan has
+-- K; and it is the only one
+pub record Chosen (p : Prices) (q : Requests) (n : ℕ) : Type 0 where
+  pub planned : Planned p q n (plan p q n)
+  pub only : (m : ℕ → Mark) → Planned p q n m → Agree n m (plan p q n)
+
+pub chosen : (p : Prices) (q : Requests) (n : ℕ) → Chosen p q n
+chosen p q n = record { planned = plan-planned p q n; only = plan-only p q n }

@@ -45,19 +45,22 @@ unfoldable pub serve-condition : ℕ → Requests → List ℕ → ℕ → List 
 serve-condition count q ns i =
     refuse 18 (suc i) (not (stands count (q .server 0) (rows-of ns) (q .server (suc i)) (q .time (suc i)))) ∷ []
 
--- 14, then each row's 15 and 16, then each row's 17, then each request's 18
+-- 14, then each row's 15 and 16
+abbrev pub form-conditions : ℕ → Requests → ℕ → List ℕ → List Condition
+form-conditions count q n ns =
+    refuse 14 0 (not (eqb (length ns % 4) 0)) ∷ each (row-conditions count q n ns) (row-count ns)
+
+-- these, then each row's 17, then each request's 18
 unfoldable pub schedule-conditions : ℕ → Requests → ℕ → List ℕ → List Condition
 schedule-conditions count q n ns =
-    refuse 14 0 (not (eqb (length ns % 4) 0))
-    ∷ (each (row-conditions count q n ns) (row-count ns)
-    ++ (each (copy-condition count q ns) (row-count ns) ++ each (serve-condition count q ns) n))
+    form-conditions count q n ns ++ (each (copy-condition count q ns) (row-count ns) ++ each (serve-condition count q ns) n)
 
 -- the cost that the checker answers where none holds
 unfoldable pub check-cost : Prices → List ℕ → ℕ
 check-cost p ns = cost-of p (rows-of ns)
 
 -- the rows of numbers are accepted: four for each, of kind 0 or 1, well formed and feasible
-pub record Accepted (count : ℕ) (q : Requests) (n : ℕ) (ns : List ℕ) : Type 0 where
+pub record Scheduled (count : ℕ) (q : Requests) (n : ℕ) (ns : List ℕ) : Type 0 where
   pub whole : length ns % 4 ≡ 0
   pub kinds : (i : ℕ) → i < row-count ns → getD ns (4 * i) 0 ≤ 1
   pub shaped : well-formed count n (q .time n) (rows-of ns) ≡ true

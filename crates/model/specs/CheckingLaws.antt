@@ -9,19 +9,19 @@ use lib.Dec.{ltb, eqb}
 use lib.ListN.{getD, length}
 use borrow.Author.Tests.{ltb-false, eqb-true, eqb-false, lt-ltb, le-ltb, ne-eqb, not-false}
 use Rattle.base.specs.declared.Verdict.the-variants.{Passed}
-use Rattle.base.specs.Choice.{either}
+use Rattle.base.specs.Choice.{either, not-both}
 use Rattle.base.specs.Refusals.{Condition, refuse, first, each, nth}
 use Rattle.base.specs.RefusalLaws.{first-failed, append-passed, each-passed, first-passed}
 use Rattle.prices.specs.declared.Prices.{Prices}
 use Rattle.base.specs.ChoiceLaws.{either-false}
 use Rattle.model.specs.Requests.{Requests}
-use Rattle.model.specs.Schedule.{Row, hold, move, transfer, Stands, Feasible, cost-of}
+use Rattle.model.specs.Schedule.{Row, hold, move, transfer, Stands, Backed, Feasible, cost-of}
 use Rattle.model.specs.Standing.{stands}
 use Rattle.model.specs.StandingLaws.{stands-sound, stands-complete}
 use Rattle.model.specs.RowForm.{flat, row-at, rows-of, fits, follows, well-formed}
 use Rattle.model.specs.RowLaws.{fits-move, row-member, member-row, Formed, formed, well-formed-of, ordered-follows, follows-ordered}
 use Rattle.model.specs.FlatLaws.{rows-of-flat, flat-length, flat-kinds}
-use Rattle.model.specs.Checking.{row-count, misfits, misplaced, row-conditions, backed, copy-condition, serve-condition, schedule-conditions, check-cost, Accepted}
+use Rattle.model.specs.Checking.{row-count, misfits, misplaced, row-conditions, backed, copy-condition, serve-condition, form-conditions, schedule-conditions, check-cost, Scheduled}
 
 -- ---- what each condition's failing says
 
@@ -130,14 +130,24 @@ pub targets : (count n last : ℕ) (rows : List Row) → Formed count n last row
 targets count n last rows f y x τ m = fits-move count last y x τ (f .fit (move (transfer y x τ)) m) .1
 
 module _ (count : ℕ) (q : Requests) (n : ℕ) (ns : List ℕ) where
+  -- rows that fit, each after the one before it, are well formed
+  shaped : ((i : ℕ) → i < row-count ns → Fitting count q n ns i)
+      → ((i : ℕ) → suc i < row-count ns → follows (row-at ns i) (row-at ns (suc i)) ≡ true) → Formed count n (q .time n) (rows-of ns)
+  unfolding rows-of row-count
+  shaped fitting-at placed-at =
+      record { asked = λ r m. row r m .0; fit = λ r m. row r m .1; order = follows-ordered ns (row-count ns) placed-at }
+    where
+      row : (r : Row) → List·Memᴰ r (rows-of ns) → (0 < n) × (fits count (q .time n) r ≡ true)
+      row r m = let (i, l, e) = member-row ns (row-count ns) m in let f = fitting-at i l in (f .asked, rw e (f .fit))
+
   -- that is what all conditions say
-  accepted : Clear count q n ns → Accepted count q n ns
+  accepted : Clear count q n ns → Scheduled count q n ns
   unfolding rows-of row-count backed
   accepted c =
       record {
         whole = c .whole;
         kinds = λ i l. c .fitting-at i l .kind;
-        shaped = well-formed-of count n (q .time n) (rows-of ns) shape;
+        shaped = well-formed-of count n (q .time n) (rows-of ns) (shaped (c .fitting-at) (c .placed-at));
         feasible = record {
           begins = λ x a b m. there x a (back (hold x a b) m);
           leaves = λ y x τ m. there y τ (back (move (transfer y x τ)) m);
@@ -145,12 +155,6 @@ module _ (count : ℕ) (q : Requests) (n : ℕ) (ns : List ℕ) where
         };
       }
     where
-      fitting-row : (r : Row) → List·Memᴰ r (rows-of ns) → (0 < n) × (fits count (q .time n) r ≡ true)
-      fitting-row r m = let (i, l, e) = member-row ns (row-count ns) m in let f = c .fitting-at i l in (f .asked, rw e (f .fit))
-
-      shape : Formed count n (q .time n) (rows-of ns)
-      shape = record { asked = λ r m. fitting-row r m .0; fit = λ r m. fitting-row r m .1; order = follows-ordered ns (row-count ns) (c .placed-at) }
-
       there : (x τ : ℕ) → stands count (q .server 0) (rows-of ns) x τ ≡ true → Stands (q .server 0) (rows-of ns) x τ
       there = stands-sound count (q .server 0) (rows-of ns)
 
@@ -161,9 +165,9 @@ module _ (count : ℕ) (q : Requests) (n : ℕ) (ns : List ℕ) where
       serves zero l h = absurd (omega arith)
       serves (suc i) l h = there (q .server (suc i)) (q .time (suc i)) (c .served-at i h)
 
-  accepted-clear : Accepted count q n ns → Clear count q n ns
+  scheduled-clear : Scheduled count q n ns → Clear count q n ns
   unfolding rows-of row-count backed
-  accepted-clear c =
+  scheduled-clear c =
       record {
         whole = c .whole;
         fitting-at = λ i l. record { kind = c .kinds i l; asked = shape .asked (row-at ns i) (row i l); fit = shape .fit (row-at ns i) (row i l) };
@@ -186,8 +190,48 @@ module _ (count : ℕ) (q : Requests) (n : ℕ) (ns : List ℕ) where
       back (move (transfer y x τ)) m = there (c .feasible .leaves y x τ m)
 
   -- the conditions all fail if and only if the rows are accepted
-  pub accepts-iff : (first (schedule-conditions count q n ns) ≡ Passed) ↔ Accepted count q n ns
-  accepts-iff = (λ e. accepted (clear count q n ns e), λ a. clear-passed count q n ns (accepted-clear a))
+  pub accepts-iff : (first (schedule-conditions count q n ns) ≡ Passed) ↔ Scheduled count q n ns
+  accepts-iff = (λ e. accepted (clear count q n ns e), λ a. clear-passed count q n ns (scheduled-clear a))
+
+-- ---- 17 and 18 by where copies stand
+
+-- a test of a fact fails exactly if there is no such fact
+fails-iff : (b : Bool) {A : Type 0} → (b ≡ true → A) → (A → b ≡ true) → (not b ≡ true) ↔ (A → ⊥)
+fails-iff true f g = (λ e. absurd (not-both e refl), λ h. absurd (h (f refl)))
+fails-iff false f g = (λ e a. not-both (g a) refl, λ h. refl)
+
+-- where none of 14 to 16 holds
+module _ (count : ℕ) (q : Requests) (n : ℕ) (ns : List ℕ) (e : first (form-conditions count q n ns) ≡ Passed) where
+  shape : Formed count n (q .time n) (rows-of ns)
+  unfolding row-conditions
+  shape = shaped count q n ns (λ i l. fitting count q n ns i (row i l 0)) (λ i l. placed ns i (row (suc i) l 1))
+    where
+      rows : first (of-rows count q n ns) ≡ Passed
+      rows = sym (first-failed _ _ (first-passed (form-conditions count q n ns) .0 e 0)) ∙ e
+
+      row : (i : ℕ) → i < row-count ns → (j : ℕ) → nth (row-conditions count q n ns i) j .holds ≡ false
+      row i l = first-passed (row-conditions count q n ns i) .0 (each-passed (row-conditions count q n ns) (row-count ns) .0 rows i l)
+
+  there : (x τ : ℕ) → stands count (q .server 0) (rows-of ns) x τ ≡ true → Stands (q .server 0) (rows-of ns) x τ
+  there = stands-sound count (q .server 0) (rows-of ns)
+
+  found : (x τ : ℕ) → Stands (q .server 0) (rows-of ns) x τ → stands count (q .server 0) (rows-of ns) x τ ≡ true
+  found x τ s = stands-complete count (q .server 0) (rows-of ns) (targets count n (q .time n) (rows-of ns) shape) s
+
+  -- 17 holds of a row exactly if no copy stands where it begins
+  pub unbacked : (i : ℕ) → (nth (copy-condition count q ns i) 0 .holds ≡ true) ↔ (Backed (q .server 0) (rows-of ns) (row-at ns i) → ⊥)
+  unfolding copy-condition backed Backed
+  unbacked i = go (row-at ns i)
+    where
+      go : (r : Row) → (not (backed count (q .server 0) (rows-of ns) r) ≡ true) ↔ (Backed (q .server 0) (rows-of ns) r → ⊥)
+      go (hold x a b) = fails-iff _ (there x a) (found x a)
+      go (move (transfer y x τ)) = fails-iff _ (there y τ) (found y τ)
+
+  -- 18 holds of a request exactly if none stands at its server and second
+  pub unserved : (i : ℕ)
+      → (nth (serve-condition count q ns i) 0 .holds ≡ true) ↔ (Stands (q .server 0) (rows-of ns) (q .server (suc i)) (q .time (suc i)) → ⊥)
+  unfolding serve-condition
+  unserved i = fails-iff _ (there (q .server (suc i)) (q .time (suc i))) (found (q .server (suc i)) (q .time (suc i)))
 
 -- well-formed and feasible rows, given as numbers, are accepted
 pub flat-accepted : (count : ℕ) (q : Requests) (n : ℕ) (rows : List Row) → well-formed count n (q .time n) rows ≡ true → Feasible q n rows

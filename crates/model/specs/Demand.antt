@@ -167,13 +167,13 @@ module _ (p : Prices) (q : Requests) (n : ℕ) (r : Rising q n) (allow : ℕ →
   demand-of c D h d = bound n c D (omega arith) h d
 
 -- a marking of the first n requests that is K only where there is a previous request
-unfoldable pub Proper : Requests → ℕ → (ℕ → Mark) → Type 0
-Proper q n m = (i : ℕ) → i < n → m (suc i) ≡ K → legal q (suc i) K ≡ true
+unfoldable pub Keepable : Requests → ℕ → (ℕ → Mark) → Type 0
+Keepable q n m = (i : ℕ) → i < n → m (suc i) ≡ K → legal q (suc i) K ≡ true
 
-module _ (q : Requests) (n : ℕ) (m : ℕ → Mark) (proper : Proper q n m) where
+module _ (q : Requests) (n : ℕ) (m : ℕ → Mark) (proper : Keepable q n m) where
   -- where no span begins it is S
   not-begun : (i : ℕ) → i < n → begin q m (suc i) ≡ none → m (suc i) ≡ S
-  unfolding begin keeps Proper legal some?
+  unfolding begin keeps Keepable legal some?
   not-begun i h e = go (m (suc i)) refl
     where
       go : (a : Mark) → m (suc i) ≡ a → m (suc i) ≡ S
@@ -210,7 +210,7 @@ module _ (q : Requests) (n : ℕ) (m : ℕ → Mark) (proper : Proper q n m) whe
       each (suc i) a b = one i b (begin q m (suc i)) refl
 
 -- the demand lemma for a proper marking, each S at the transfer price
-pub demand : (p : Prices) (q : Requests) (n : ℕ) → Rising q n → (m : ℕ → Mark) → Proper q n m
+pub demand : (p : Prices) (q : Requests) (n : ℕ) → Rising q n → (m : ℕ → Mark) → Keepable q n m
     → (c : ℕ) (D : ℕ → ℕ) → c ≤ n → ((τ : ℕ) → 1 ≤ τ → spans-over q (begin q m) n τ ≤ D τ)
     → ((l τ : ℕ) → l < c → m (suc l) ≡ S → q .time l < τ → τ ≤ q .time (suc l) → 1 ≤ D τ)
     → free p q n c ≤ p .transfer * sent m n + p .hold * sum (q .time n) D

@@ -35,17 +35,17 @@ use Rattle.model.specs.TableLaws.{
 -- one table, with prices `to`, against another, with prices `from`
 module _ (p : Prices) (q : Requests) (allow : ℕ → Bool) (to from : ℕ → ℕ → ℕ) where
   -- request i + 1 is not kept in the other table: the one may follow it, whatever is covered above c, or it is a transfer and could be kept over the gap
-  pub data Follows (i c : ℕ) : Type 0 where
-    same : May p q allow (suc i) → ((d : ℕ) → c ≤ d → to i d + open-gap p q i c ≤ from i c + open-gap p q i d) → Follows i c
-    turned : previous q (suc i) ≡ some i → p .transfer + open-gap p q i c ≤ from i c → Follows i c
+  pub data Keeps-up (i c : ℕ) : Type 0 where
+    same : May p q allow (suc i) → ((d : ℕ) → c ≤ d → to i d + open-gap p q i c ≤ from i c + open-gap p q i d) → Keeps-up i c
+    turned : previous q (suc i) ≡ some i → p .transfer + open-gap p q i c ≤ from i c → Keeps-up i c
 
   -- request i + 1 can be had for a transfer, or kept over the gap
-  pub data Reached (i c : ℕ) : Type 0 where
-    gets : May p q allow (suc i) → to i c ≤ p .transfer + open-gap p q i c → Reached i c
-    stays : previous q (suc i) ≡ some i → Reached i c
+  pub data Comes-near (i c : ℕ) : Type 0 where
+    gets : May p q allow (suc i) → to i c ≤ p .transfer + open-gap p q i c → Comes-near i c
+    stays : previous q (suc i) ≡ some i → Comes-near i c
 
 module _ (p : Prices) (q : Requests) (n : ℕ) (r : Rising q n) (allow any : ℕ → Bool) (to from : ℕ → ℕ → ℕ) (fair : Fair p q to)
-    (follows : (i c : ℕ) → Follows p q allow to from i c) (reached : (i c : ℕ) → Reached p q allow to from i c) where
+    (follows : (i c : ℕ) → Keeps-up p q allow to from i c) (reached : (i c : ℕ) → Comes-near p q allow to from i c) where
   -- the table that allows less
   abbrev f : ℕ → ℕ → ℕ
   f = table p q allow to
@@ -79,7 +79,7 @@ module _ (p : Prices) (q : Requests) (n : ℕ) (r : Rising q n) (allow any : ℕ
   f-next : (i c : ℕ) → f (suc i) c ≤ p .transfer + span p q i (suc i) + f i i
   f-next i c = go (reached i c)
     where
-      go : Reached p q allow to from i c → f (suc i) c ≤ p .transfer + span p q i (suc i) + f i i
+      go : Comes-near p q allow to from i c → f (suc i) c ≤ p .transfer + span p q i (suc i) + f i i
       go (stays e) = omega (arith, f-gap i c e)
       go (gets may h) =
           omega (
@@ -91,13 +91,13 @@ module _ (p : Prices) (q : Requests) (n : ℕ) (r : Rising q n) (allow any : ℕ
           )
 
   -- request i + 1 is not kept in g, and its gap is open
-  gone-open : (i c : ℕ) → i < c → f i i ≤ g i i → g (suc i) c ≡ from i c + g i i → Follows p q allow to from i c → f (suc i) c ≤ g (suc i) c
+  gone-open : (i c : ℕ) → i < c → f i i ≤ g i i → g (suc i) c ≡ from i c + g i i → Keeps-up p q allow to from i c → f (suc i) c ≤ g (suc i) c
   gone-open i c h top e (same may fol) =
       omega (arith, table-away p q allow to i c may, fol c (omega arith), table-rises p q allow to fair i (min c i) i (omega arith))
   gone-open i c h top e (turned a dear) = omega (arith, f-gap i c a, open-gap-open p q i c h)
 
   -- request i + 1 is not kept in g, and its gap is covered
-  gone-shut : (i c : ℕ) → suc i ≤ n → c ≤ i → Near i c → g (suc i) c ≡ from i c + g i c → Follows p q allow to from i c → Near (suc i) c
+  gone-shut : (i c : ℕ) → suc i ≤ n → c ≤ i → Near i c → g (suc i) c ≡ from i c + g i c → Keeps-up p q allow to from i c → Near (suc i) c
   gone-shut i c k h (inl a) e (same may fol) =
       inl (omega (arith, table-away p q allow to i c may, fol c (omega arith), ap (f i) (min-eq-left h)))
   gone-shut i c k h (inr a) e (same may fol) =
@@ -179,10 +179,10 @@ best-free p q n r =
     price : ℕ → ℕ → ℕ
     price = send-price p q
 
-    follows : (i c : ℕ) → (allow (suc i) ≡ true) ⊎ (allow (suc i) ≡ false) → Follows p q allow price price i c
+    follows : (i c : ℕ) → (allow (suc i) ≡ true) ⊎ (allow (suc i) ≡ false) → Keeps-up p q allow price price i c
     follows i c (inl e) = same (inl e) (λ d h. omega arith)
     follows i c (inr e) = turned (not-legal q i e) (omega arith)
 
-    reached : (i c : ℕ) → (allow (suc i) ≡ true) ⊎ (allow (suc i) ≡ false) → Reached p q allow price price i c
+    reached : (i c : ℕ) → (allow (suc i) ≡ true) ⊎ (allow (suc i) ≡ false) → Comes-near p q allow price price i c
     reached i c (inl e) = gets (inl e) (omega arith)
     reached i c (inr e) = stays (not-legal q i e)

@@ -27,7 +27,7 @@ use Rattle.model.specs.Once.{awaits-own, since-some, Claim, idle, claims
 use Rattle.model.specs.Schedule.{Row, hold, move, transfer, Feasible, length-of, is-transfer, cost-of}
 use Rattle.model.specs.Marking.{Mark, K, S, keeps, some?, legal, begin, sent}
 use Rattle.model.specs.Table.{free, best}
-use Rattle.model.specs.Demand.{spanned, spans-over, Proper, demand}
+use Rattle.model.specs.Demand.{spanned, spans-over, Keepable, demand}
 use Rattle.model.specs.Exchange.{best-free}
 use Rattle.model.specs.Fate.{Over, Fate, kept, got, other, some-hold, fate}
 
@@ -79,9 +79,9 @@ module _ (q : Requests) (n : ℕ) (rows : List Row) (r : Rising q n) (F : Feasib
   mark i = mark-of (fate q n rows F r i)
 
   -- it is K only where there is a previous request
-  mark-proper : Proper q n mark
-  unfolding Proper mark mark-of legal some?
-  mark-proper i h = go (fate q n rows F r (suc i))
+  mark-keepable : Keepable q n mark
+  unfolding Keepable mark mark-of legal some?
+  mark-keepable i h = go (fate q n rows F r (suc i))
     where
       go : (x : Fate q n rows (suc i)) → mark-of x ≡ K → legal q (suc i) K ≡ true
       go (kept j e all) k = rw e
@@ -131,7 +131,7 @@ module _ (q : Requests) (n : ℕ) (rows : List Row) (r : Rising q n) (F : Feasib
   free-least p =
       omega (
         arith,
-        demand p q n r mark mark-proper n (copies rows) (omega arith)
+        demand p q n r mark mark-keepable n (copies rows) (omega arith)
             (λ τ a. claims-met q rows at (λ w. τ) (over τ) n r (λ i. spanned q (begin q mark i) i τ) (λ i b c. span-claim τ i))
             (λ l τ h e a b. gap-copies l τ h a b),
         mul-le-mul-left (p .hold) (copies-length rows (q .time n)),

@@ -21,6 +21,11 @@ pub data Stands (home : ℕ) (rows : List Row) : ℕ → ℕ → Type 0 where
   held : {x a b τ : ℕ} → List·Memᴰ (hold x a b) rows → a < τ → τ ≤ b → Stands home rows x τ
   arrived : {x y τ : ℕ} → List·Memᴰ (move (transfer y x τ)) rows → Stands home rows y τ → Stands home rows x τ
 
+-- a copy stands where and when a row begins: a hold at its start, a transfer at its source
+unfoldable pub Backed : ℕ → List Row → Row → Type 0
+Backed home rows (hold x a b) = Stands home rows x a
+Backed home rows (move (transfer y x τ)) = Stands home rows y τ
+
 -- each hold begins and each transfer leaves where a copy stands, and one stands at each of the first n requests
 pub record Feasible (q : Requests) (n : ℕ) (rows : List Row) : Type 0 where
   pub begins : (x a b : ℕ) → List·Memᴰ (hold x a b) rows → Stands (q .server 0) rows x a

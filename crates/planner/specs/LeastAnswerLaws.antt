@@ -23,10 +23,10 @@ use Rattle.model.specs.PlanLaws.{plan-best}
 use Rattle.model.specs.TableLists.{lists, lists-length, lists-costs}
 use Rattle.model.specs.LogRequests.{requests-in, prices-in}
 use Rattle.planner.specs.declared.LeastCosts.{LeastCosts}
-use Rattle.planner.specs.declared.requests.Setup.{Setup}
+use Rattle.planner.specs.declared.requests.Summary.{Summary}
 use Rattle.planner.specs.Answers.{least-costs, least-verdict, least-answer, costs-left}
 use Rattle.planner.specs.LeastAnswer.{costs-answer}
-use Rattle.planner.specs.Loading.{setup-of}
+use Rattle.planner.specs.Loading.{summary-of}
 
 -- the table's C is the least cost of each number of requests
 pub lists-least : (p : Prices) (q : Requests) (n : ℕ) → lists p q n .costs ≡ build (suc n) (λ k. plan-cost p q k)
@@ -70,11 +70,11 @@ answer-least Passed log = refl
 answer-least (Refused e) log = refl
 
 -- an accepted one, by its requests as they were read
-pub least-accepted : (log costs : List ℕ) → Accepted log → (s : Setup) → s ≡ setup-of log → (q : Requests) → q ≡ requests-in log → (r : LeastCosts) (costs′ : List ℕ)
+pub least-accepted : (log costs : List ℕ) → Accepted log → (s : Summary) → s ≡ summary-of log → (q : Requests) → q ≡ requests-in log → (r : LeastCosts) (costs′ : List ℕ)
     → r ≡ costs-answer (first (short (suc (s .requests)) (length costs) ∷ [])) (s .requests)
     → costs′ ≡ lent (first (short (suc (s .requests)) (length costs) ∷ [])) (lists (s .prices) q (s .requests) .costs) costs
     → Least-so log costs r costs′
-unfolding least-verdict Accepted verdict-of least-costs setup-of
+unfolding least-verdict Accepted verdict-of least-costs summary-of
 least-accepted log costs ok s e q f r costs′ a b =
     let v : first (short (suc (request-count log)) (length costs) ∷ []) ≡ least-verdict log (length costs) =
     sym (first-append (log-conditions log) (short (suc (request-count log)) (length costs) ∷ []) ∙ rw ok) in (

@@ -17,7 +17,7 @@ pub mod Loading
 pub mod LinkLaws
 pub mod LoadLaws
 pub mod LoadedLaws
-pub mod SetupLaws
+pub mod SummaryLaws
 pub mod LeastAnswer
 pub mod LeastAnswerLaws
 pub mod GapWordLaws

@@ -8,7 +8,7 @@ use Rattle.log.specs.Fields.{home-of, server-count, request-count, seconds-of, 
 use Rattle.model.specs.Requests.{latest}
 use Rattle.model.specs.TableLists.{at}
 use Rattle.model.specs.LogRequests.{prices-in}
-use Rattle.planner.specs.declared.requests.Setup.{Setup}
+use Rattle.planner.specs.declared.requests.Summary.{Summary}
 use Rattle.planner.specs.declared.requests.Loaded.{Loaded}
 use Rattle.planner.specs.declared.requests.Loaded.the-variants as loaded′
 use Rattle.planner.specs.Terms.{index}
@@ -25,10 +25,10 @@ unfoldable pub links : List ℕ → ℕ → List ℕ
 links servers n = build (suc n) (λ i. index (latest (at servers) (at servers i) i))
 
 -- what else a log says
-unfoldable pub setup-of : List ℕ → Setup
-setup-of log = record { requests = request-count log; «server_count» = server-count log; prices = prices-in log }
+unfoldable pub summary-of : List ℕ → Summary
+summary-of log = record { requests = request-count log; «server_count» = server-count log; prices = prices-in log }
 
 -- that, by its verdict
 unfoldable pub loaded : Verdict → List ℕ → Loaded
-loaded Passed log = loaded′.Log (setup-of log)
+loaded Passed log = loaded′.Log (summary-of log)
 loaded (Refused r) log = loaded′.Refused r

@@ -24,8 +24,8 @@ use Rattle.model.specs.PlanLaws.{plan-planned, plan-best}
 use Rattle.model.specs.LogRequests.{requests-in, prices-in}
 use Rattle.prices.specs.declared.Prices.{Prices}
 use Rattle.planner.specs.declared.Planned.{Planned}
-use Rattle.planner.specs.declared.requests.Setup.{Setup}
-use Rattle.planner.specs.Loading.{setup-of}
+use Rattle.planner.specs.declared.requests.Summary.{Summary}
+use Rattle.planner.specs.Loading.{summary-of}
 use Rattle.planner.specs.HolderWords.{gap-word, marking}
 use Rattle.planner.specs.Asked.{asks}
 use Rattle.planner.specs.WordRowLaws.{gap-words-right, word-rows-right}
@@ -136,10 +136,10 @@ answer-planned Passed log = refl
 answer-planned (Refused e) log = refl
 
 -- an accepted log, by its requests as they were read
-pub log-answered : (log : List ℕ) → Accepted log → (s : Setup) → s ≡ setup-of log → (q : Requests) → q ≡ requests-in log
+pub log-answered : (log : List ℕ) → Accepted log → (s : Summary) → s ≡ summary-of log → (q : Requests) → q ≡ requests-in log
     → (marks rows : List ℕ) (r : Planned) (marks′ rows′ : List ℕ)
     → Plan-answered (s .prices) q (s .requests) (s .«server_count») marks rows r marks′ rows′ → Planned-so log marks rows r marks′ rows′
-unfolding plan-verdict lengths-verdict rows-of-plan planned-rows marks-of plan-letters Accepted verdict-of setup-of
+unfolding plan-verdict lengths-verdict rows-of-plan planned-rows marks-of plan-letters Accepted verdict-of summary-of
 log-answered log ok s e q f marks rows r marks′ rows′ x =
     let v : lengths-verdict (planned-rows log) (request-count log) marks rows ≡ plan-verdict log (length marks) (length rows) =
     sym (first-append (log-conditions log) (short (request-count log) (length marks) ∷ short (length (rows-of-plan log)) (length rows) ∷ []) ∙ rw ok) in

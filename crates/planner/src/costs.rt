@@ -12,7 +12,7 @@ ghost use Rattle.planner.specs.Fits.{Ready};
 ghost use Rattle.planner.specs.LeastAnswer.{costs-answer};
 use crate::LeastCosts;
 use crate::requests::Loaded;
-use crate::requests::Setup;
+use crate::requests::Summary;
 use crate::requests::load;
 use crate::table::fill;
 use base::Refusal;
@@ -30,17 +30,17 @@ fn prefixes(n: u16) -> u32
 
 // The least costs of the requests that were read.
 fn costs_of(
-    setup: Setup,
+    summary: Summary,
     seconds: &[u32; 2049],
     servers: &[u16; 2049],
     previous: &[u16; 2049],
     costs: &mut [u64],
 ) -> LeastCosts
-    requires { ⌜ Ready (setup .prices) (now seconds) (now servers) (now previous) (setup .requests) ⌝ }
-    ensures { λ r. ⌜ r ≡ costs-answer (first (short (suc (setup .requests)) (length (now (costs .entry))) ∷ [])) (setup .requests) ⌝ }
-    ensures { λ _. ⌜ now (costs .exit) ≡ lent (first (short (suc (setup .requests)) (length (now (costs .entry))) ∷ [])) (lists (setup .prices) (asks (now (seconds .entry)) (now (servers .entry))) (setup .requests) .costs) (now (costs .entry)) ⌝ }
+    requires { ⌜ Ready (summary .prices) (now seconds) (now servers) (now previous) (summary .requests) ⌝ }
+    ensures { λ r. ⌜ r ≡ costs-answer (first (short (suc (summary .requests)) (length (now (costs .entry))) ∷ [])) (summary .requests) ⌝ }
+    ensures { λ _. ⌜ now (costs .exit) ≡ lent (first (short (suc (summary .requests)) (length (now (costs .entry))) ∷ [])) (lists (summary .prices) (asks (now (seconds .entry)) (now (servers .entry))) (summary .requests) .costs) (now (costs .entry)) ⌝ }
 {
-    let needed = size_from_u16(setup.requests) + 1;
+    let needed = size_from_u16(summary.requests) + 1;
     if costs.len() < needed {
         return LeastCosts::Refused(Refusal {
             number: 31,
@@ -49,16 +49,16 @@ fn costs_of(
     }
     let mut keeps = [0u64; 2049];
     fill(
-        setup.prices,
+        summary.prices,
         seconds,
         servers,
         previous,
-        setup.requests,
+        summary.requests,
         costs,
         &mut keeps,
     );
     clear64(costs, needed);
-    LeastCosts::Costs(prefixes(setup.requests))
+    LeastCosts::Costs(prefixes(summary.requests))
 }
 
 // The least cost of each number of a log's first requests, from none to all (01's 'The plan').
@@ -72,6 +72,6 @@ pub fn least(log: &[u8], costs: &mut [u64]) -> LeastCosts
     let loaded = load(log, &mut seconds, &mut servers, &mut previous);
     match loaded {
         Loaded::Refused(r) => LeastCosts::Refused(r),
-        Loaded::Log(setup) => costs_of(setup, &seconds, &servers, &previous, costs),
+        Loaded::Log(summary) => costs_of(summary, &seconds, &servers, &previous, costs),
     }
 }

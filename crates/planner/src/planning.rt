@@ -12,7 +12,7 @@ use crate::Planned;
 use crate::holders::holders;
 use crate::holders::row_count;
 use crate::requests::Loaded;
-use crate::requests::Setup;
+use crate::requests::Summary;
 use crate::requests::load;
 use crate::rows::put_all;
 use crate::table::fill;
@@ -68,23 +68,23 @@ fn answer(
 
 // The plan of the requests that were read.
 fn plan_of(
-    setup: Setup,
+    summary: Summary,
     seconds: &[u32; 2049],
     servers: &[u16; 2049],
     previous: &[u16; 2049],
     marks: &mut [u8],
     rows: &mut [u32],
 ) -> Planned
-    requires { ⌜ Ready (setup .prices) (now seconds) (now servers) (now previous) (setup .requests) ⌝ }
-    requires { ⌜ (setup .«server_count» ≤ 64) × Within (setup .«server_count») (asks (now seconds) (now servers)) (setup .requests) ⌝ }
-    ensures { λ r. ⌜ Plan-answered (setup .prices) (asks (now (seconds .entry)) (now (servers .entry))) (setup .requests) (setup .«server_count») (now (marks .entry)) (now (rows .entry)) r (now (marks .exit)) (now (rows .exit)) ⌝ }
+    requires { ⌜ Ready (summary .prices) (now seconds) (now servers) (now previous) (summary .requests) ⌝ }
+    requires { ⌜ (summary .«server_count» ≤ 64) × Within (summary .«server_count») (asks (now seconds) (now servers)) (summary .requests) ⌝ }
+    ensures { λ r. ⌜ Plan-answered (summary .prices) (asks (now (seconds .entry)) (now (servers .entry))) (summary .requests) (summary .«server_count») (now (marks .entry)) (now (rows .entry)) r (now (marks .exit)) (now (rows .exit)) ⌝ }
 {
     let mut costs = [0u64; 2049];
     let mut keeps = [0u64; 2049];
     let mut letters = [0u8; 2048];
-    let n = setup.requests;
+    let n = summary.requests;
     fill(
-        setup.prices,
+        summary.prices,
         seconds,
         servers,
         previous,
@@ -93,7 +93,7 @@ fn plan_of(
         &mut keeps,
     );
     write_marks(
-        setup.prices,
+        summary.prices,
         seconds,
         servers,
         previous,
@@ -104,7 +104,7 @@ fn plan_of(
     );
     answer(
         n,
-        setup.server_count,
+        summary.server_count,
         costs[size_from_u16(n)],
         seconds,
         servers,
@@ -126,6 +126,6 @@ pub fn plan(log: &[u8], marks: &mut [u8], rows: &mut [u32]) -> Planned
     let loaded = load(log, &mut seconds, &mut servers, &mut previous);
     match loaded {
         Loaded::Refused(r) => Planned::Refused(r),
-        Loaded::Log(setup) => plan_of(setup, &seconds, &servers, &previous, marks, rows),
+        Loaded::Log(summary) => plan_of(summary, &seconds, &servers, &previous, marks, rows),
     }
 }

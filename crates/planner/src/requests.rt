@@ -22,7 +22,7 @@ use prices::Prices;
 use prices::of_class;
 
 // What an accepted log says beside its requests: how many they are, how many servers there are, and the prices.
-pub struct Setup {
+pub struct Summary {
     pub requests: u16,
     pub server_count: u8,
     pub prices: Prices,
@@ -30,7 +30,7 @@ pub struct Setup {
 
 // That, or why the log is refused.
 pub enum Loaded {
-    Log(Setup),
+    Log(Summary),
     Refused(Refusal),
 }
 
@@ -91,7 +91,7 @@ pub fn load(
             seconds[0] = 0;
             servers[0] = u16_from_u8(header.home);
             link(servers, n, previous);
-            Loaded::Log(Setup {
+            Loaded::Log(Summary {
                 requests: n,
                 server_count: header.server_count,
                 prices: of_class(header.class),

@@ -28,8 +28,8 @@ unfolding costs-answer lent
 returns c =
     let a = c .before .before .before .before .args in
     let e = c .before .before .size-from-u16 .ensures .0 in
-    let v = no-room (a .setup .requests) (a .costs .now) (omega (arith, e)) in
-    (rw (v, c .u64-from-size .ensures .0, e, add-one (a .setup .requests)), rw v)
+    let v = no-room (a .summary .requests) (a .costs .now) (omega (arith, e)) in
+    (rw (v, c .u64-from-size .ensures .0, e, add-one (a .summary .requests)), rw v)
 
 slice-aggregate-fill : tie.Need-slice-aggregate-fill
 slice-aggregate-fill c = search needs
@@ -53,7 +53,7 @@ unfolding costs-answer
 returns-2 c =
     let s = c .before .before .before .before .before .before .before .before .before .before .before .before .before .before in
     let a = s .args in
-    let n = a .setup .requests in
+    let n = a .summary .requests in
     let size = c .before .before .before .before .before .before .before .before .before .before .before .before .size-from-u16 in
     let e : size .result + 1 ≡ suc n = ap (λ (k : ℕ). k + 1) (size .ensures .0) ∙ add-one n in
     let l : suc n ≤ length (a .costs .now) = omega (arith, e) in
@@ -62,7 +62,7 @@ returns-2 c =
       rw v
           (c .before .before .before .clear64 .ensures
           ∙ ap₂ (λ (k : ℕ) (o : List ℕ). cleared k o) e (c .before .before .before .before .before .before .before .before .fill .ensures .0)
-          ∙ costs-lent (a .setup .prices) (asks (a .seconds .now) (a .servers .now)) n (a .costs .now) l),
+          ∙ costs-lent (a .summary .prices) (asks (a .seconds .now) (a .servers .now)) n (a .costs .now) l),
     )
 
 pub costs-of-spec : {M : Type 1} → statement M

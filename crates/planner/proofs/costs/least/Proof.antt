@@ -1,5 +1,5 @@
 -- `planner::costs::least` meets its contract. Assumes nothing.
-use Rattle.planner.specs.SetupLaws.{loaded-log, loaded-refused, setup-requests, setup-ready}
+use Rattle.planner.specs.SummaryLaws.{loaded-log, loaded-refused, setup-requests, summary-ready}
 use Rattle.planner.specs.LeastAnswer.{costs-answer}
 use Rattle.planner.specs.LeastAnswerLaws.{least-refused, least-accepted}
 use Rattle.log.specs.Conditions.{verdict-of, Accepted}
@@ -23,7 +23,7 @@ costs-of-requires c κs =
     let r = c .before .before .before .before .before .before .before in
     let log = r .before .before .before .before .before .before .args .log .now in
     let d = loaded-log (verdict-of log) log (r .load .result) _ (r .load .ensures .0) (c .before .before .before .before .before .loaded2 .given .1) in
-    setup-ready log (d .0) _ _ _ _ (r .load .ensures .1 .0) (r .load .ensures .1 .1 .0) _ _ _ (r .load .ensures .1 .1 .1) (d .1)
+    summary-ready log (d .0) _ _ _ _ (r .load .ensures .1 .0) (r .load .ensures .1 .1 .0) _ _ _ (r .load .ensures .1 .1 .1) (d .1)
 
 returns : tie.Need-returns
 unfolding costs-answer

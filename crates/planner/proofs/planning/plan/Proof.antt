@@ -1,6 +1,6 @@
 -- `planner::planning::plan` meets its contract. Assumes nothing.
-use Rattle.planner.specs.Loading.{setup-of}
-use Rattle.planner.specs.SetupLaws.{loaded-log, loaded-refused, setup-requests, setup-ready, setup-within}
+use Rattle.planner.specs.Loading.{summary-of}
+use Rattle.planner.specs.SummaryLaws.{loaded-log, loaded-refused, setup-requests, summary-ready, setup-within}
 use Rattle.planner.specs.PlanAnswer.{answer-of}
 use Rattle.planner.specs.PlanRight.{log-refused, log-answered}
 use Rattle.log.specs.AcceptedLaws.{accepted-sound}
@@ -20,12 +20,12 @@ enum-known-loaded-2 : tie.Need-enum-known-loaded-2
 enum-known-loaded-2 c = search needs
 
 plan-of-requires : tie.Need-plan-of-requires
-unfolding Accepted setup-of
+unfolding Accepted summary-of
 plan-of-requires c κs =
     let r = c .before .before .before .before .before .before .before .before in
     let log = r .before .before .before .before .before .before .before .args .log .now in
     let d = loaded-log (verdict-of log) log (r .load .result) _ (r .load .ensures .0) (c .before .before .before .before .before .before .loaded2 .given .1) in (
-      setup-ready log (d .0) _ _ _ _ (r .load .ensures .1 .0) (r .load .ensures .1 .1 .0) _ _ _ (r .load .ensures .1 .1 .1) (d .1),
+      summary-ready log (d .0) _ _ _ _ (r .load .ensures .1 .0) (r .load .ensures .1 .1 .0) _ _ _ (r .load .ensures .1 .1 .1) (d .1),
       (
         rw (d .1) (accepted-sound log (d .0) .setup .servers-most),
         rw (d .1) (setup-within log (d .0) _ _ _ _ (r .load .ensures .1 .0) (r .load .ensures .1 .1 .0)),

@@ -36,7 +36,7 @@ write-marks-requires c κs =
     let few = s .pre .0 .fits .requests-most in (
       s .pre .0,
       (
-        filled-tabled (a .setup .prices) (asks (a .seconds .now) (a .servers .now)) (a .setup .requests) _ _ _ _ (f .fill .ensures .0) (f .fill .ensures .1),
+        filled-tabled (a .summary .prices) (asks (a .seconds .now) (a .servers .now)) (a .summary .requests) _ _ _ _ (f .fill .ensures .0) (f .fill .ensures .1),
         search needs,
       ),
     )
@@ -60,9 +60,9 @@ answer-requires c κs =
     let s = f .before .before .before .before .before in
     let a = s .args in
     let few = s .pre .0 .fits .requests-most in
-    plan-marked (a .setup .prices) (a .setup .requests) (a .setup .«server_count») (a .seconds .now) (a .servers .now) _ few (s .pre .1 .0) (s .pre .1 .1)
-    (lettered-front (a .setup .prices) (asks (a .seconds .now) (a .servers .now)) (a .setup .requests) _ _ (w .write-marks .ensures))
-    (spelt-front (a .setup .prices) (asks (a .seconds .now) (a .servers .now)) (a .setup .requests) _ _ (w .write-marks .ensures))
+    plan-marked (a .summary .prices) (a .summary .requests) (a .summary .«server_count») (a .seconds .now) (a .servers .now) _ few (s .pre .1 .0) (s .pre .1 .1)
+    (lettered-front (a .summary .prices) (asks (a .seconds .now) (a .servers .now)) (a .summary .requests) _ _ (w .write-marks .ensures))
+    (spelt-front (a .summary .prices) (asks (a .seconds .now) (a .servers .now)) (a .summary .requests) _ _ (w .write-marks .ensures))
 
 same-length : tie.Need-same-length
 same-length c = search needs
@@ -77,10 +77,10 @@ returns c =
     let s = f .before .before .before .before .before in
     let a = s .args in
     let few = s .pre .0 .fits .requests-most in
-    let p = a .setup .prices in
+    let p = a .summary .prices in
     let q = asks (a .seconds .now) (a .servers .now) in
-    let n = a .setup .requests in
-    plan-answered p n (a .setup .«server_count») (a .seconds .now) (a .servers .now) _ few (s .pre .1 .0) (s .pre .1 .1)
+    let n = a .summary .requests in
+    plan-answered p n (a .summary .«server_count») (a .seconds .now) (a .servers .now) _ few (s .pre .1 .0) (s .pre .1 .1)
     (lettered-front p q n _ _ (w .write-marks .ensures))
     (spelt-front p q n _ _ (w .write-marks .ensures)) _ (a .marks .now) (a .rows .now) _ _ _
     (cost-front p q n _ _ _ (filled-tabled p q n _ _ _ _ (f .fill .ensures .0) (f .fill .ensures .1)) (c .before .before .before .before .before .before .before .before .before .before .size-from-u16 .ensures .0))

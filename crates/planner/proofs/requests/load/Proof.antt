@@ -8,7 +8,7 @@ use Rattle.log.specs.Fields.{home-of, seconds-of, servers-of, header-of}
 use Rattle.log.specs.Conditions.{verdict-of, Accepted}
 use Rattle.log.specs.declared.Header.{Header}
 use Rattle.model.specs.LogRequests.{prices-in}
-use Rattle.planner.specs.Loading.{seconds-with-home, servers-with-home, setup-of, loaded}
+use Rattle.planner.specs.Loading.{seconds-with-home, servers-with-home, summary-of, loaded}
 use Rattle.planner.specs.LoadedLaws.{decoded-requests, decoded-refused, home-loaded, home-kept, lent-small, links-loaded, log-fits}
 use Rattle.planner.proofs.requests.load.Statement.{statement}
 use Rattle.planner.proofs.requests.load.Tie as tie
@@ -61,7 +61,7 @@ returns c =
     )
 
 returns-2 : tie.Need-returns-2
-unfolding header-of seconds-with-home servers-with-home loaded setup-of prices-in Accepted
+unfolding header-of seconds-with-home servers-with-home loaded summary-of prices-in Accepted
 returns-2 c =
     let r = c .before .before .before .before .before .before .before .before .before in
     let a = r .before .before .before .before .args in

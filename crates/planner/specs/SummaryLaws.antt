@@ -12,16 +12,16 @@ use Rattle.log.specs.Conditions.{verdict-of, Accepted}
 use Rattle.model.specs.Requests.{Within}
 use Rattle.model.specs.LogRequests.{requests-in}
 use Rattle.model.specs.LogRequestLaws.{log-within}
-use Rattle.planner.specs.declared.requests.Setup.{Setup}
+use Rattle.planner.specs.declared.requests.Summary.{Summary}
 use Rattle.planner.specs.declared.requests.Loaded.{Loaded}
 use Rattle.planner.specs.declared.requests.Loaded.the-variants as loaded′
 use Rattle.planner.specs.Asked.{asks}
 use Rattle.planner.specs.Fits.{Ready}
-use Rattle.planner.specs.Loading.{seconds-with-home, servers-with-home, links, setup-of, loaded}
+use Rattle.planner.specs.Loading.{seconds-with-home, servers-with-home, links, summary-of, loaded}
 use Rattle.planner.specs.LoadedLaws.{lent-requests, lent-ready}
 
 -- a log that is loaded is accepted
-pub loaded-log : (v : Verdict) (log : List ℕ) (x : Loaded) (s : Setup) → x ≡ loaded v log → x ≡ loaded′.Log s → (v ≡ Passed) × (s ≡ setup-of log)
+pub loaded-log : (v : Verdict) (log : List ℕ) (x : Loaded) (s : Summary) → x ≡ loaded v log → x ≡ loaded′.Log s → (v ≡ Passed) × (s ≡ summary-of log)
 unfolding loaded
 loaded-log Passed log x s e f = (refl, cc)
 loaded-log (Refused r) log x s e f = absurd (let z : _≡_ {A = ℕ} 0 1 = cc in omega arith)
@@ -47,8 +47,8 @@ module _ (log : List ℕ) (ok : Accepted log) (o₁ o₂ x y : List ℕ)
   setup-within = rw setup-requests (log-within log ok)
 
   -- and are ready
-  pub setup-ready : (o₃ z : List ℕ) (s : Setup) → z ≡ lent (verdict-of log) (links (servers-with-home log) (request-count log)) o₃ → s ≡ setup-of log
+  pub summary-ready : (o₃ z : List ℕ) (s : Summary) → z ≡ lent (verdict-of log) (links (servers-with-home log) (request-count log)) o₃ → s ≡ summary-of log
       → Ready (s .prices) x y z (s .requests)
-  unfolding setup-of
-  setup-ready o₃ z s g h =
+  unfolding summary-of
+  summary-ready o₃ z s g h =
       rw (h, e, f, g, passed (seconds-with-home log) o₁, passed (servers-with-home log) o₂, passed (links (servers-with-home log) (request-count log)) o₃) (lent-ready log ok o₁ o₂ o₃)
