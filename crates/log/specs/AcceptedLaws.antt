@@ -1,5 +1,5 @@
 -- What is not refused is in range, and the other way round. Assumes nothing.
-use mathlib.Core.Bool.{Bool, true, false, not}
+use mathlib.Core.Bool.{false, not}
 use mathlib.Core.List.{List, [], _∷_, _++_}
 use mathlib.Core.Logic.{_≢_, _↔_}
 use mathlib.Core.Path.{_≡_, refl, sym, _∙_}
@@ -13,11 +13,10 @@ use Rattle.base.specs.ChoiceLaws.{either-false, neither-of}
 use Rattle.base.specs.Refusals.{Condition, first, each}
 use Rattle.base.specs.RefusalLaws.{first-failed, append-passed, each-passed, first-passed}
 use Rattle.base.specs.declared.Verdict.the-variants.{Passed}
-use Rattle.base.specs.Bytes.{byte, le16, le32}
+use Rattle.base.specs.Bytes.{le16, le32}
 use Rattle.base.specs.Lists.{build-length, build-at}
 use Rattle.log.specs.declared.Setup.{Setup}
-use Rattle.log.specs.Fields.{version, server-count, setup-of, request-count, requests-offset, id-offset, total-length, written-sum, id-of, length-for, seconds-of, servers-of}
-use Rattle.log.specs.Sum.{sum-of}
+use Rattle.log.specs.Fields.{server-count, request-count, total-length, id-of, length-for, seconds-of, servers-of}
 use Rattle.log.specs.Conditions.{setup-conditions, header-conditions, before, request-conditions, log-conditions, verdict-of, Accepted}
 use Rattle.log.specs.Contents.{Contents, contents-conditions}
 use Rattle.log.specs.Ranges.{Allowed, In-order, Sound, Proper, Writable}
