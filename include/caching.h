@@ -1,6 +1,15 @@
-/* The calls of target/staticlib/libexports.a (rt staticlib exports), for C. Their promises are in crates/exports.
- * No call needs anything of its arguments but that each pointer has as many elements behind it as the length after it says;
- * with length 0 it may be null. Server is station, request is scan, transfer is send, cost is bill in the printed page's words. */
+/* The calls of target/staticlib/libexports.a (rt staticlib exports), for C and C++. Their promises are in crates/exports.
+ * Server is station, request is scan, transfer is send, cost is bill in the printed page's words.
+ *
+ * What the caller has to see to; of what is handed in nothing else is asked:
+ * - each pointer has as many elements behind it as the length after it says; with length 0 it may be null;
+ * - an output that is lent overlaps nothing else that the call is given: where it does, a wrong answer can come back as accepted;
+ * - `closed` is 0 or 1: any other byte is not a bool;
+ * - the stack has room: caching_plan takes 101 KB of it, caching_least 50 KB, any other call less than 2 KB (measured on x86-64).
+ *
+ * A refused call gives the refusal's number and place, and values 0. What it was lent is left as it was; a read gives a header of zeros, a scan
+ * and a close give the state back as it was handed in, a start gives a state of zeros. An accepted call gives number 0, place 0 and its values; what
+ * it was lent has the answer at its front, and zeros after it. */
 #ifndef CACHING_H
 #define CACHING_H
 
@@ -32,7 +41,7 @@ struct caching_read_answer {
     struct caching_answer answer;
 };
 
-/* the online cache: every field may be read, and a state that no call gave back is refused or served as it stands */
+/* the online cache: every field may be read, and a state that no call gave back is refused (32) or served as it stands */
 struct caching_cache {
     uint8_t file_class;
     uint8_t server_count;
@@ -69,10 +78,11 @@ struct caching_read_answer caching_read(const uint8_t *log, size_t log_length, u
 struct caching_answer caching_write(struct caching_header header, const uint32_t *seconds, size_t seconds_length,
                                     const uint16_t *servers, size_t servers_length, uint8_t *log, size_t log_length);
 
-/* rows are four numbers each; value: their cost */
+/* rows_length counts numbers, four for each row; value: the cost of the rows */
 struct caching_answer caching_check(const uint8_t *log, size_t log_length, const uint32_t *rows, size_t rows_length);
 
-/* value: the least cost; more: the number of rows. Marks are the letters K and S */
+/* marks are the letters K and S; rows_length counts numbers, four for each row, and so does the place of 31 where rows are too short.
+ * value: the least cost; more: how many rows, not numbers */
 struct caching_answer caching_plan(const uint8_t *log, size_t log_length, uint8_t *marks, size_t marks_length,
                                    uint32_t *rows, size_t rows_length);
 

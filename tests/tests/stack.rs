@@ -1,0 +1,61 @@
+//! How much stack the calls take, as include/caching.h says: each on a thread that has little more.
+
+mod library;
+
+use library::Library;
+use reference::calls::Calls;
+use reference::log::{Header, Log, Request};
+use std::thread::Builder;
+
+/// A call on a stack of so many bytes, those of the thread itself included: where they do not suffice, the system ends the test.
+fn on(bytes: usize, call: fn()) {
+    Builder::new().stack_size(bytes).spawn(call).unwrap().join().unwrap();
+}
+
+/// The longest log, of the most servers.
+fn longest() -> Vec<u8> {
+    let header = Header { class: 7, server_count: 64, home: 63, id: [7; 16] };
+    let requests = (1..=2_048).map(|i| Request { second: 1_953 * i, server: (29 * i % 64) as u16 }).collect();
+    Log { header, requests }.bytes()
+}
+
+#[test]
+fn plan() {
+    on(110_000, || {
+        assert!(Library::plan(&longest(), &mut vec![0; 2_048], &mut vec![0; 16_384]).is_ok());
+    });
+}
+
+#[test]
+fn least() {
+    on(60_000, || {
+        assert_eq!(Library::least(&longest(), &mut vec![0; 2_049]), Ok(2_049));
+    });
+}
+
+#[test]
+fn check() {
+    on(20_000, || {
+        assert!(Library::check(&longest(), &[0, 63, 0, 3_999_744]).is_err());
+    });
+}
+
+#[test]
+fn read_and_write() {
+    on(20_000, || {
+        let (mut seconds, mut servers) = (vec![0; 2_048], vec![0; 2_048]);
+        let (header, count) = Library::read(&longest(), &mut seconds, &mut servers);
+        assert_eq!(count, Ok(2_048));
+        assert_eq!(Library::write(&header, &seconds, &servers, &mut vec![0; 12_328]), Ok(12_328));
+    });
+}
+
+#[test]
+fn online() {
+    on(20_000, || {
+        let (cache, _) = Library::start(7, 64, 63);
+        let (cache, served) = Library::scan(&cache, 1, 0);
+        assert!(served.is_ok());
+        assert!(Library::close(&cache).1.is_ok());
+    });
+}
