@@ -6,6 +6,7 @@ use borrow.Author.Tests.{ltb-false, le-ltb}
 use Rattle.base.specs.Refusals.{first, short}
 use Rattle.base.specs.RefusalLaws.{append-passed, first-passed}
 use Rattle.base.specs.declared.Verdict.the-variants.{Passed}
+use Rattle.log.specs.Sizes.{most-requests}
 use Rattle.log.specs.Fields.{request-count, length-for}
 use Rattle.log.specs.Conditions.{log-conditions, verdict-of, Accepted}
 use Rattle.log.specs.Contents.{Contents, contents-conditions}
@@ -43,9 +44,9 @@ pub write-passes : (c : Contents) (log : ℕ) → Proper c → length-for (lengt
 unfolding write-verdict first
 write-passes c log f l = append-passed (contents-conditions c) _ .1 (writable-proper c .1 f, rw (le-ltb log _ l))
 
--- so both lists have one length of at most 2,048, and the log has room
+-- so both lists have one length of at most as many as a log can have, and the log has room
 pub write-room : (c : Contents) (log : ℕ) → write-verdict c log ≡ Passed
-    → (length (c .seconds) ≡ length (c .servers)) × (length (c .seconds) ≤ 2048) × (40 + 6 * length (c .seconds) ≤ log)
+    → (length (c .seconds) ≡ length (c .servers)) × (length (c .seconds) ≤ most-requests) × (40 + 6 * length (c .seconds) ≤ log)
 unfolding length-for
 write-room c log e =
     let (f, room) = write-passed c log e in

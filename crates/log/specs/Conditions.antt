@@ -11,6 +11,7 @@ use Rattle.base.specs.declared.Verdict.{Verdict}
 use Rattle.base.specs.declared.Verdict.the-variants.{Passed}
 use Rattle.base.specs.Bytes.{byte}
 use Rattle.log.specs.declared.Setup.{Setup}
+use Rattle.log.specs.Sizes.{most-requests}
 use Rattle.log.specs.Fields.{version, server-count, setup-of, request-count, requests-offset, id-offset, total-length, written-sum, length-for, seconds-of, servers-of}
 use Rattle.log.specs.Sum.{sum-of}
 
@@ -30,7 +31,7 @@ form-conditions s =
     ∷ refuse 2 0 (not (eqb (version s) 1))
     ∷ (setup-conditions (setup-of s)
     ++ (refuse 6 0 (not (eqb (byte s 5) 0))
-    ∷ refuse 7 0 (ltb 2048 (request-count s))
+    ∷ refuse 7 0 (ltb most-requests (request-count s))
     ∷ refuse 8 0
     (either (not (eqb (requests-offset s) 40))
     (either (not (eqb (id-offset s) 24)) (not (eqb (total-length s) (length-for (request-count s))))))

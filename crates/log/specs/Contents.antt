@@ -9,6 +9,7 @@ use Rattle.base.specs.Refusals.{Condition, refuse, each}
 use Rattle.base.specs.Bytes.{bytes}
 use Rattle.log.specs.declared.Setup.{Setup}
 use Rattle.log.specs.declared.Header.{Header}
+use Rattle.log.specs.Sizes.{most-requests}
 use Rattle.log.specs.Fields.{header-of, seconds-of, servers-of, length-for}
 use Rattle.log.specs.Sum.{sum-from}
 use Rattle.log.specs.Conditions.{setup-conditions, request-conditions}
@@ -59,7 +60,7 @@ setup-in h = record { «class» = h .«class»; «server_count» = h .«server_c
 unfoldable pub contents-conditions : Contents → List Condition
 contents-conditions c =
     setup-conditions (setup-in (c .header))
-    ++ (refuse 7 0 (either (ltb 2048 (length (c .seconds))) (not (eqb (length (c .seconds)) (length (c .servers)))))
+    ++ (refuse 7 0 (either (ltb most-requests (length (c .seconds))) (not (eqb (length (c .seconds)) (length (c .servers)))))
     ∷ each (request-conditions (c .header .«server_count») (c .seconds) (c .servers)) (length (c .seconds)))
 
 -- the first k requests, with the same header (01's 'What demand 3 compares': cut)

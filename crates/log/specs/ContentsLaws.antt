@@ -12,12 +12,13 @@ use Rattle.base.specs.Refusals.{Condition, refuse, first, each, or-else, from}
 use Rattle.base.specs.RefusalLaws.{first-append, otherwise, from-first, from-append}
 use Rattle.base.specs.declared.Verdict.{Verdict}
 use Rattle.base.specs.declared.Verdict.the-variants.{Passed, Refused}
+use Rattle.log.specs.Sizes.{most-requests}
 use Rattle.log.specs.Conditions.{setup-conditions, request-conditions}
 use Rattle.log.specs.Contents.{Contents, setup-in, contents-conditions}
 
 -- 7: more than 2,048 requests, or lists of unequal length
 abbrev pub lengths-condition : ℕ → ℕ → Condition
-lengths-condition n m = refuse 7 0 (either (ltb 2048 n) (not (eqb n m)))
+lengths-condition n m = refuse 7 0 (either (ltb most-requests n) (not (eqb n m)))
 
 pub contents-parts : (c : Contents)
     → first (contents-conditions c)
@@ -43,9 +44,9 @@ or-else-passed Passed c e = go (c .holds) refl
     go true q = absurd (let w = rw q at e in let z : _≡_ {A = ℕ} 0 1 = cc in omega arith)
 or-else-passed (Refused r) c e = absurd (let z : _≡_ {A = ℕ} 0 1 = cc in omega arith)
 
-pub lengths-inside : (n m : ℕ) → either (ltb 2048 n) (not (eqb n m)) ≡ false → (n ≡ m) × (n ≤ 2048)
-lengths-inside n m e = go (ltb 2048 n) refl e
+pub lengths-inside : (n m : ℕ) → either (ltb most-requests n) (not (eqb n m)) ≡ false → (n ≡ m) × (n ≤ most-requests)
+lengths-inside n m e = go (ltb most-requests n) refl e
   where
-    go : (b : Bool) → ltb 2048 n ≡ b → either b (not (eqb n m)) ≡ false → (n ≡ m) × (n ≤ 2048)
+    go : (b : Bool) → ltb most-requests n ≡ b → either b (not (eqb n m)) ≡ false → (n ≡ m) × (n ≤ most-requests)
     go true q e = absurd (let z : _≡_ {A = ℕ} 0 1 = cc in omega arith)
-    go false q e = (eqb-true n m (not-false _ e), ltb-false 2048 n q)
+    go false q e = (eqb-true n m (not-false _ e), ltb-false most-requests n q)

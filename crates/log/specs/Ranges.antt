@@ -7,6 +7,7 @@ use Rattle.base.specs.declared.Verdict.the-variants.{Passed}
 use Rattle.base.specs.Bytes.{byte}
 use Rattle.base.specs.Refusals.{first}
 use Rattle.log.specs.declared.Setup.{Setup}
+use Rattle.log.specs.Sizes.{most-requests}
 use Rattle.log.specs.Fields.{version, server-count, setup-of, request-count, requests-offset, id-offset, total-length, written-sum, length-for, seconds-of, servers-of}
 use Rattle.log.specs.Sum.{sum-of}
 use Rattle.log.specs.Conditions.{before}
@@ -31,7 +32,7 @@ pub record Sound (s : List ℕ) : Type 0 where
   pub version-is : version s ≡ 1
   pub setup : Allowed (setup-of s)
   pub zero-is : byte s 5 ≡ 0
-  pub requests-most : request-count s ≤ 2048
+  pub requests-most : request-count s ≤ most-requests
   pub requests-at : requests-offset s ≡ 40
   pub id-at : id-offset s ≡ 24
   pub total-is : total-length s ≡ length-for (request-count s)
@@ -42,7 +43,7 @@ pub record Sound (s : List ℕ) : Type 0 where
 -- contents that a log can say
 pub record Proper (c : Contents) : Type 0 where
   pub setup : Allowed (setup-in (c .header))
-  pub requests-most : length (c .seconds) ≤ 2048
+  pub requests-most : length (c .seconds) ≤ most-requests
   pub as-many : length (c .servers) ≡ length (c .seconds)
   pub in-order : (i : ℕ) → i < length (c .seconds) → In-order (c .header .«server_count») (c .seconds) (c .servers) i
 

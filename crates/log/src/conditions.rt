@@ -6,11 +6,13 @@ ghost use lib.Dec.{ltb, eqb};
 ghost use lib.ListN.{length};
 ghost use Rattle.base.specs.Choice.{either};
 ghost use Rattle.base.specs.Refusals.{first, each, from};
+ghost use Rattle.log.specs.Sizes.{most-requests};
 ghost use Rattle.log.specs.Fields.{server-count, request-count, requests-offset, id-offset, total-length, written-sum, length-for, seconds-of, servers-of};
 ghost use Rattle.log.specs.Sum.{sum-of};
 ghost use Rattle.log.specs.Conditions.{setup-conditions, form-conditions, request-check, request-conditions, verdict-of};
 ghost use Rattle.log.specs.Contents.{contents, contents-conditions};
 use crate::Header;
+use crate::MOST_REQUESTS;
 use crate::Setup;
 use crate::checksum::sum;
 use base::Refusal;
@@ -24,6 +26,9 @@ use base::widths::size_from_u32;
 use base::widths::u16_from_u8;
 use base::widths::u32_from_u16;
 use base::widths::u64_from_size;
+
+// The most requests, as the header has them.
+const MOST: u16 = MOST_REQUESTS as u16;
 
 // 1 to 64 servers are allowed.
 fn count_outside(count: u8) -> bool
@@ -78,7 +83,7 @@ fn form_fault(log: &[u8]) -> Verdict
     };
     let v = setup_fault(v, setup);
     let v = or_else(v, at(log, 5) != 0, 6, 0);
-    let v = or_else(v, 2048 < n, 7, 0);
+    let v = or_else(v, MOST < n, 7, 0);
     let v = or_else(v, misplaced(log, n), 8, 0);
     or_else(v, total_differs(log), 9, 0)
 }
@@ -157,9 +162,9 @@ pub fn verdict(log: &[u8]) -> Verdict
 
 // More than 2,048 requests, or lists of unequal length.
 fn lengths_outside(seconds: usize, servers: usize) -> bool
-    ensures { λ r. ⌜ r ≡ either (ltb 2048 seconds) (not (eqb seconds servers)) ⌝ }
+    ensures { λ r. ⌜ r ≡ either (ltb most-requests seconds) (not (eqb seconds servers)) ⌝ }
 {
-    if 2048 < seconds {
+    if MOST_REQUESTS < seconds {
         return true;
     }
     seconds != servers
@@ -167,7 +172,7 @@ fn lengths_outside(seconds: usize, servers: usize) -> bool
 
 // 11 to 13 for each request of two lists of one length.
 fn lists_fault(count: u8, seconds: &[u32], servers: &[u16]) -> Verdict
-    requires { ⌜ (length (now seconds) ≡ length (now servers)) × (length (now seconds) ≤ 2048) ⌝ }
+    requires { ⌜ (length (now seconds) ≡ length (now servers)) × (length (now seconds) ≤ most-requests) ⌝ }
     ensures { λ r. ⌜ r ≡ first (each (request-conditions count (now (seconds .entry)) (now (servers .entry))) (length (now (seconds .entry)))) ⌝ }
 {
     let mut earlier: u32 = 0;

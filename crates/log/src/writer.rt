@@ -5,6 +5,7 @@ ghost use Prim.Native.Nat.{_+_, _*_, _≤_, _<_};
 ghost use lib.ListN.{length, take, drop};
 ghost use Rattle.base.specs.Bytes.{bytes};
 ghost use Rattle.base.specs.Lists.{splice};
+ghost use Rattle.log.specs.Sizes.{most-requests};
 ghost use Rattle.log.specs.Sum.{sum-of};
 ghost use Rattle.log.specs.Contents.{contents, head, request-bytes, requests-bytes};
 ghost use Rattle.log.specs.Answers.{write-verdict, written, log-left};
@@ -22,14 +23,14 @@ use base::widths::u64_from_size;
 
 // At most 2,048 requests, in narrower types.
 fn u16_from_size(n: usize) -> u16
-    requires { ⌜ n ≤ 2048 ⌝ }
+    requires { ⌜ n ≤ most-requests ⌝ }
     ensures { λ r. ⌜ r ≡ n ⌝ }
 {
     n as u16
 }
 
 fn u32_from_size(n: usize) -> u32
-    requires { ⌜ n ≤ 2048 ⌝ }
+    requires { ⌜ n ≤ most-requests ⌝ }
     ensures { λ r. ⌜ r ≡ n ⌝ }
 {
     n as u32
@@ -37,7 +38,7 @@ fn u32_from_size(n: usize) -> u32
 
 // Bytes 0 to 19 of a log of n requests.
 fn front(header: Header, n: usize) -> [u8; 20]
-    requires { ⌜ n ≤ 2048 ⌝ }
+    requires { ⌜ n ≤ most-requests ⌝ }
     ensures { λ r. ⌜ r ≡ head header n ⌝ }
 {
     let c = le_bytes16(u16_from_size(n));
@@ -77,7 +78,7 @@ fn request(second: u32, server: u16) -> [u8; 6]
 
 // Bytes 0 to 19 and the id, into a log that is long enough.
 fn put_head(header: Header, n: usize, log: &mut [u8])
-    requires { ⌜ (n ≤ 2048) × (40 ≤ length (now log)) ⌝ }
+    requires { ⌜ (n ≤ most-requests) × (40 ≤ length (now log)) ⌝ }
     ensures { λ _. ⌜ now (log .exit) ≡ splice 24 (header .id) (splice 0 (head header n) (now (log .entry))) ⌝ }
 {
     let id = header.id;
@@ -87,7 +88,7 @@ fn put_head(header: Header, n: usize, log: &mut [u8])
 
 // Request k, into its place.
 fn put_request(seconds: &[u32], servers: &[u16], k: usize, log: &mut [u8])
-    requires { ⌜ (k < length (now seconds)) × (k < length (now servers)) × (k < 2048) ⌝ }
+    requires { ⌜ (k < length (now seconds)) × (k < length (now servers)) × (k < most-requests) ⌝ }
     ensures { λ _. ⌜ now (log .exit) ≡ splice (40 + 6 * k) (request-bytes (now (seconds .entry)) (now (servers .entry)) k) (now (log .entry)) ⌝ }
 {
     copy(log, 40 + 6 * k, &request(seconds[k], servers[k]));
@@ -95,7 +96,7 @@ fn put_request(seconds: &[u32], servers: &[u16], k: usize, log: &mut [u8])
 
 // All requests, from 40 on.
 fn put_requests(seconds: &[u32], servers: &[u16], log: &mut [u8])
-    requires { ⌜ (length (now seconds) ≡ length (now servers)) × (length (now seconds) ≤ 2048) × (40 + 6 * length (now seconds) ≤ length (now log)) ⌝ }
+    requires { ⌜ (length (now seconds) ≡ length (now servers)) × (length (now seconds) ≤ most-requests) × (40 + 6 * length (now seconds) ≤ length (now log)) ⌝ }
     ensures { λ _. ⌜ now (log .exit) ≡ take 40 (now (log .entry)) ++ (requests-bytes (now (seconds .entry)) (now (servers .entry)) (length (now (seconds .entry))) ++ drop (40 + 6 * length (now (seconds .entry))) (now (log .entry))) ⌝ }
 {
     let mut k: usize = 0;

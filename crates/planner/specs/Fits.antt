@@ -5,6 +5,7 @@ use native.Mathlib.Nat.{mul-le-mul}
 use native.Mathlib.Omega.{arith}
 use Prim.Native.Nat.{ℕ, suc, _-_, _^_, _≤_, _<_}
 use Rattle.prices.specs.declared.Prices.{Prices}
+use Rattle.log.specs.Sizes.{most-requests}
 use Rattle.model.specs.Requests.{Requests, previous, Rising}
 use Rattle.model.specs.Table.{best}
 use Rattle.model.specs.TableLaws.{span}
@@ -18,7 +19,7 @@ use Rattle.planner.specs.Terms.{index, terms-of, own-cost}
 pub record Fits (p : Prices) (q : Requests) (n : ℕ) : Type 0 where
   pub hold-most : p .hold ≤ 1000000
   pub transfer-most : p .transfer ≤ 1000000
-  pub requests-most : n ≤ 2048
+  pub requests-most : n ≤ most-requests
   pub times-most : (i : ℕ) → i ≤ n → q .time i ≤ 4000000
   pub rising : Rising q n
 
@@ -55,7 +56,7 @@ module _ (p : Prices) (q : Requests) (n : ℕ) (f : Fits p q n) where
         best-bounded p q n (f .rising) .rises i c i a,
         best-most p q n (f .rising) i h,
         owns-most p q i,
-        mul-le-mul {n₁ = p .transfer} {m₁ = i} {n₂ = 1000000} {m₂ = 2048} (f .transfer-most) (omega (arith, f .requests-most)),
+        mul-le-mul {n₁ = p .transfer} {m₁ = i} {n₂ = 1000000} {m₂ = most-requests} (f .transfer-most) (omega (arith, f .requests-most)),
         mul-le-mul {n₁ = p .hold} {m₁ = q .time i} {n₂ = 1000000} {m₂ = 4000000} (f .hold-most) (f .times-most i h),
       )
 

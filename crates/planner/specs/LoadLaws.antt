@@ -1,4 +1,4 @@
--- A log read into lists of 2,049 elements: the reader's conditions are the log's, and the lists are ready for the table.
+-- A log read into lists with a place for home and for every request: the reader's conditions are the log's, and the lists are ready for the table.
 use mathlib.Core.List.{List, [], _∷_, _++_, append-nil}
 use mathlib.Core.Path.{_≡_, refl, ap, ap₂, _∙_}
 use native.Mathlib.Omega.{arith}
@@ -11,10 +11,12 @@ use Rattle.base.specs.RefusalLaws.{first-append, otherwise}
 use Rattle.base.specs.declared.Verdict.{Verdict}
 use Rattle.base.specs.declared.Verdict.the-variants.{Passed, Refused}
 use Rattle.base.specs.Lent.{lent}
+use Rattle.log.specs.Sizes.{most-requests}
 use Rattle.log.specs.Fields.{request-count}
 use Rattle.log.specs.Conditions.{log-conditions, verdict-of, Accepted}
 use Rattle.log.specs.Answers.{read-verdict}
 use Rattle.log.specs.AcceptedLaws.{accepted-sound}
+use Rattle.planner.specs.Sizes.{places}
 
 -- all of a list but its first element, lent and given back
 abbrev pub behind-first : List ℕ → List ℕ
@@ -23,7 +25,7 @@ behind-first o = take (length o - 1) (drop 1 o)
 behind-all : (o : List ℕ) → behind-first o ≡ drop 1 o
 behind-all o = take-all (length o - 1) (drop 1 o) (omega (arith, length-drop 1 o))
 
-pub behind-length : (o : List ℕ) → length o ≡ 2049 → length (behind-first o) ≡ 2048
+pub behind-length : (o : List ℕ) → length o ≡ places → length (behind-first o) ≡ most-requests
 behind-length o h = ap length (behind-all o) ∙ length-drop 1 o ∙ omega arith
 
 pub behind-back : (v w : Verdict) (xs o x : List ℕ) → v ≡ w → x ≡ lent v xs (behind-first o)
@@ -35,8 +37,8 @@ behind-back v w xs o x e f =
     ∙ f
     ∙ ap₂ (λ (v : Verdict) (l : List ℕ). lent v xs l) e (behind-all o))
 
--- lists of 2,048 elements are long enough for the requests of every accepted log
-pub read-long : (s : List ℕ) (a b : ℕ) → a ≡ 2048 → b ≡ 2048 → read-verdict s a b ≡ verdict-of s
+-- lists of the most requests are long enough for the requests of every accepted log
+pub read-long : (s : List ℕ) (a b : ℕ) → a ≡ most-requests → b ≡ most-requests → read-verdict s a b ≡ verdict-of s
 unfolding read-verdict verdict-of Accepted first
 read-long s a b e f = first-append (log-conditions s) _ ∙ go (verdict-of s) refl
   where

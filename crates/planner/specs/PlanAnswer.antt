@@ -9,6 +9,7 @@ use Rattle.base.specs.Lists.{build}
 use Rattle.base.specs.declared.Verdict.{Verdict}
 use Rattle.base.specs.declared.Verdict.the-variants.{Passed, Refused}
 use Rattle.prices.specs.declared.Prices.{Prices}
+use Rattle.log.specs.Sizes.{most-requests}
 use Rattle.model.specs.Requests.{Requests, Within}
 use Rattle.model.specs.Schedule.{Row}
 use Rattle.model.specs.RowForm.{flat}
@@ -22,7 +23,7 @@ use Rattle.planner.specs.declared.Planned.the-variants as planned′
 
 -- n requests at servers below the count, with legal marks
 pub record Marked (n count : ℕ) (seconds servers letters : List ℕ) : Type 0 where
-  pub few-requests : n ≤ 2048
+  pub few-requests : n ≤ most-requests
   pub few-servers : count ≤ 64
   pub lettered : n ≤ length letters
   pub within : Within count (asks seconds servers) n

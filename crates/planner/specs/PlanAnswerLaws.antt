@@ -12,12 +12,14 @@ use Rattle.base.specs.declared.Verdict.the-variants.{Passed, Refused}
 use Rattle.base.specs.Lists.{build, build-at, splice, splice-fits, cleared}
 use Rattle.base.specs.Lent.{lent}
 use Rattle.base.specs.LentLaws.{lent-front}
+use Rattle.log.specs.Sizes.{most-requests}
 use Rattle.model.specs.Requests.{Within}
 use Rattle.model.specs.Schedule.{Row}
 use Rattle.model.specs.RowForm.{flat}
 use Rattle.model.specs.FlatLaws.{flat-length}
 use Rattle.model.specs.Marking.{rows}
 use Rattle.model.specs.TableLists.{at}
+use Rattle.planner.specs.Sizes.{places}
 use Rattle.planner.specs.HolderWords.{gap-word, marking}
 use Rattle.planner.specs.Asked.{asks}
 use Rattle.planner.specs.WordRows.{word-rows}
@@ -30,21 +32,21 @@ use Rattle.planner.specs.declared.Planned.{Planned}
 
 -- the words as the code fills them in
 abbrev filled : ℕ → List ℕ → List ℕ → List ℕ
-filled n servers letters = build 2049 (gap-word (at servers) (marking letters) (min n 2048))
+filled n servers letters = build places (gap-word (at servers) (marking letters) (min n most-requests))
 
 module _ (n count : ℕ) (seconds servers letters : List ℕ) (d : Marked n count seconds servers letters) where
   -- they are right
   right : Right (asks seconds servers) (marking letters) n (filled n servers letters)
   unfolding Within
   right =
-      let e : min n 2048 ≡ n = omega (arith, d .few-requests) in
+      let e : min n most-requests ≡ n = omega (arith, d .few-requests) in
       rw e
-      (gap-words-right (asks seconds servers) (marking letters) (marking letters) n 2049 (d .legal-marks) (λ i h. omega (arith, d .within i h, d .few-servers)) (λ i a b. refl) (omega (arith, d .few-requests)))
+      (gap-words-right (asks seconds servers) (marking letters) (marking letters) n places (d .legal-marks) (λ i h. omega (arith, d .within i h, d .few-servers)) (λ i a b. refl) (omega (arith, d .few-requests)))
 
   -- no word has place 0
   none-first : getD (filled n servers letters) 0 0 ≡ 0
   unfolding gap-word
-  none-first = build-at 2049 (gap-word (at servers) (marking letters) (min n 2048)) 0 0 (omega arith)
+  none-first = build-at places (gap-word (at servers) (marking letters) (min n most-requests)) 0 0 (omega arith)
 
   -- the rows by these words, and their number
   pub filled-rows : word-rows (asks seconds servers) (filled n servers letters) count (marking letters) n ≡ marked-rows n count seconds servers letters

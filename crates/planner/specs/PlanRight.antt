@@ -14,6 +14,7 @@ use Rattle.base.specs.RefusalLaws.{first-append}
 use Rattle.base.specs.declared.Refusal.{Refusal}
 use Rattle.base.specs.declared.Verdict.{Verdict}
 use Rattle.base.specs.declared.Verdict.the-variants.{Passed, Refused}
+use Rattle.log.specs.Sizes.{most-requests}
 use Rattle.log.specs.Fields.{request-count}
 use Rattle.log.specs.Conditions.{log-conditions, verdict-of, Accepted}
 use Rattle.model.specs.Requests.{Requests, Within}
@@ -80,7 +81,7 @@ cost-front p q n k C D t e = ap C e ∙ t .costs n (omega arith) ∙ sym (plan-b
 
 -- letters that spell the plan of the requests that two lists hold
 module _ (p : Prices) (n count : ℕ) (seconds servers letters : List ℕ)
-    (few : n ≤ 2048) (narrow : count ≤ 64) (within : Within count (asks seconds servers) n)
+    (few : n ≤ most-requests) (narrow : count ≤ 64) (within : Within count (asks seconds servers) n)
     (lettered : n ≤ length letters) (spelt : take n letters ≡ plan-letters p (asks seconds servers) n) where
   lawful : Valid (asks seconds servers) (plan p (asks seconds servers) n) n
   lawful = plan-planned p (asks seconds servers) n .lawful

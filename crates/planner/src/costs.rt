@@ -11,6 +11,7 @@ ghost use Rattle.planner.specs.Asked.{asks};
 ghost use Rattle.planner.specs.Fits.{Ready};
 ghost use Rattle.planner.specs.LeastAnswer.{costs-answer};
 use crate::LeastCosts;
+use crate::PLACES;
 use crate::requests::Loaded;
 use crate::requests::Summary;
 use crate::requests::load;
@@ -31,9 +32,9 @@ fn prefixes(n: u16) -> u32
 // The least costs of the requests that were read.
 fn costs_of(
     summary: Summary,
-    seconds: &[u32; 2049],
-    servers: &[u16; 2049],
-    previous: &[u16; 2049],
+    seconds: &[u32; PLACES],
+    servers: &[u16; PLACES],
+    previous: &[u16; PLACES],
     costs: &mut [u64],
 ) -> LeastCosts
     requires { ⌜ Ready (summary .prices) (now seconds) (now servers) (now previous) (summary .requests) ⌝ }
@@ -47,7 +48,7 @@ fn costs_of(
             place: u64_from_size(needed),
         });
     }
-    let mut keeps = [0u64; 2049];
+    let mut keeps = [0u64; PLACES];
     fill(
         summary.prices,
         seconds,
@@ -66,9 +67,9 @@ pub fn least(log: &[u8], costs: &mut [u64]) -> LeastCosts
     ensures { λ r. ⌜ r ≡ least-answer (least-verdict (now (log .entry)) (length (now (costs .entry)))) (now (log .entry)) ⌝ }
     ensures { λ _. ⌜ now (costs .exit) ≡ costs-left (now (log .entry)) (now (costs .entry)) ⌝ }
 {
-    let mut seconds = [0u32; 2049];
-    let mut servers = [0u16; 2049];
-    let mut previous = [0u16; 2049];
+    let mut seconds = [0u32; PLACES];
+    let mut servers = [0u16; PLACES];
+    let mut previous = [0u16; PLACES];
     let loaded = load(log, &mut seconds, &mut servers, &mut previous);
     match loaded {
         Loaded::Refused(r) => LeastCosts::Refused(r),

@@ -6,14 +6,18 @@ ghost use Rattle.base.specs.Choice.{pick};
 ghost use Rattle.base.specs.Lists.{build};
 ghost use Rattle.base.specs.Sets.{members};
 ghost use Rattle.model.specs.TableLists.{at};
+ghost use Rattle.log.specs.Sizes.{most-requests};
+ghost use Rattle.planner.specs.Sizes.{places};
 ghost use Rattle.planner.specs.HolderWords.{kept-step, or-server, gap-word, marking};
 ghost use Rattle.planner.specs.RowCount.{row-count};
+use crate::PLACES;
 use crate::reads::kept;
 use crate::reads::server;
 use crate::reads::word;
 use base::sets::cut;
 use base::sets::put;
 use base::widths::size_from_u16;
+use log::MOST_REQUESTS;
 
 // The servers kept over a gap, from those kept over the next one, the server of the request between them and whether it is K.
 fn kept_step(w: u64, x: u16, kept: bool) -> u64
@@ -36,21 +40,22 @@ fn or_server(w: u64, x: u16) -> u64
     w
 }
 
-// The number of requests, 2,048 at most.
+// The number of requests, at most as many as a log can have.
 fn capped(n: u16) -> usize
-    ensures { λ r. ⌜ r ≡ min n 2048 ⌝ }
+    ensures { λ r. ⌜ r ≡ min n most-requests ⌝ }
 {
-    if 2048 < n {
-        return 2048;
+    let k = size_from_u16(n);
+    if MOST_REQUESTS < k {
+        return MOST_REQUESTS;
     }
-    size_from_u16(n)
+    k
 }
 
 // The holders over gaps 1 to n, the word of each at its gap's place.
-pub fn holders(servers: &[u16], letters: &[u8], n: u16) -> [u64; 2049]
-    ensures { λ r. ⌜ r ≡ build 2049 (gap-word (at (now (servers .entry))) (marking (now (letters .entry))) (min n 2048)) ⌝ }
+pub fn holders(servers: &[u16], letters: &[u8], n: u16) -> [u64; PLACES]
+    ensures { λ r. ⌜ r ≡ build places (gap-word (at (now (servers .entry))) (marking (now (letters .entry))) (min n most-requests)) ⌝ }
 {
-    let mut words = [0u64; 2049];
+    let mut words = [0u64; PLACES];
     let mut w: u64 = 0;
     let mut i = capped(n);
     while 0 < i {

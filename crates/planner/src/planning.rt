@@ -8,6 +8,7 @@ ghost use Rattle.planner.specs.Answers.{plan-verdict, planned, marks-lef
 ghost use Rattle.planner.specs.Asked.{asks};
 ghost use Rattle.planner.specs.Fits.{Ready};
 ghost use Rattle.planner.specs.PlanAnswer.{Marked, Answered, Plan-answered, marked-rows, answer-of};
+use crate::PLACES;
 use crate::Planned;
 use crate::holders::holders;
 use crate::holders::row_count;
@@ -24,6 +25,7 @@ use base::bytes::copy;
 use base::widths::size_from_u16;
 use base::widths::size_from_u32;
 use base::widths::u64_from_size;
+use log::MOST_REQUESTS;
 
 // 31: an output is shorter than what is needed.
 fn short(needed: usize) -> Planned
@@ -69,9 +71,9 @@ fn answer(
 // The plan of the requests that were read.
 fn plan_of(
     summary: Summary,
-    seconds: &[u32; 2049],
-    servers: &[u16; 2049],
-    previous: &[u16; 2049],
+    seconds: &[u32; PLACES],
+    servers: &[u16; PLACES],
+    previous: &[u16; PLACES],
     marks: &mut [u8],
     rows: &mut [u32],
 ) -> Planned
@@ -79,9 +81,9 @@ fn plan_of(
     requires { ⌜ (summary .«server_count» ≤ 64) × Within (summary .«server_count») (asks (now seconds) (now servers)) (summary .requests) ⌝ }
     ensures { λ r. ⌜ Plan-answered (summary .prices) (asks (now (seconds .entry)) (now (servers .entry))) (summary .requests) (summary .«server_count») (now (marks .entry)) (now (rows .entry)) r (now (marks .exit)) (now (rows .exit)) ⌝ }
 {
-    let mut costs = [0u64; 2049];
-    let mut keeps = [0u64; 2049];
-    let mut letters = [0u8; 2048];
+    let mut costs = [0u64; PLACES];
+    let mut keeps = [0u64; PLACES];
+    let mut letters = [0u8; MOST_REQUESTS];
     let n = summary.requests;
     fill(
         summary.prices,
@@ -120,9 +122,9 @@ pub fn plan(log: &[u8], marks: &mut [u8], rows: &mut [u32]) -> Planned
     ensures { λ _. ⌜ now (marks .exit) ≡ marks-left (now (log .entry)) (now (marks .entry)) (now (rows .entry)) ⌝ }
     ensures { λ _. ⌜ now (rows .exit) ≡ rows-left (now (log .entry)) (now (marks .entry)) (now (rows .entry)) ⌝ }
 {
-    let mut seconds = [0u32; 2049];
-    let mut servers = [0u16; 2049];
-    let mut previous = [0u16; 2049];
+    let mut seconds = [0u32; PLACES];
+    let mut servers = [0u16; PLACES];
+    let mut previous = [0u16; PLACES];
     let loaded = load(log, &mut seconds, &mut servers, &mut previous);
     match loaded {
         Loaded::Refused(r) => Planned::Refused(r),

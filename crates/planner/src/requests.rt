@@ -9,8 +9,11 @@ ghost use Rattle.log.specs.Fields.{request-count, seconds-of, servers-of};
 ghost use Rattle.log.specs.Conditions.{verdict-of};
 ghost use Rattle.log.specs.Answers.{decoded};
 ghost use Rattle.model.specs.TableLists.{at};
+ghost use Rattle.log.specs.Sizes.{most-requests};
+ghost use Rattle.planner.specs.Sizes.{places};
 ghost use Rattle.planner.specs.Loading.{seconds-with-home, servers-with-home, links, loaded};
 use crate::NONE;
+use crate::PLACES;
 use base::Refusal;
 use base::bytes::clear16;
 use base::widths::size_from_u16;
@@ -35,8 +38,8 @@ pub enum Loaded {
 }
 
 // The previous request of request i, and i as the most recent at its server.
-fn link_one(servers: &[u16; 2049], i: u16, recent: &mut [u16; 64], previous: &mut [u16])
-    requires { ⌜ (i ≤ 2048) × (at (now servers) i < 64) × (length (now previous) ≡ 2049) ⌝ }
+fn link_one(servers: &[u16; PLACES], i: u16, recent: &mut [u16; 64], previous: &mut [u16])
+    requires { ⌜ (i ≤ most-requests) × (at (now servers) i < 64) × (length (now previous) ≡ places) ⌝ }
     ensures { λ _. ⌜ now (recent .exit) ≡ set (now (recent .entry)) (at (now (servers .entry)) i) i ⌝ }
     ensures { λ _. ⌜ now (previous .exit) ≡ set (now (previous .entry)) i (at (now (recent .entry)) (at (now (servers .entry)) i)) ⌝ }
 {
@@ -47,8 +50,8 @@ fn link_one(servers: &[u16; 2049], i: u16, recent: &mut [u16; 64], previous: &mu
 }
 
 // The previous request of each of requests 0 to n, and zeros beyond.
-fn link(servers: &[u16; 2049], n: u16, previous: &mut [u16])
-    requires { ⌜ (n ≤ 2048) × ((k : ℕ) → at (now servers) k < 64) × (length (now previous) ≡ 2049) ⌝ }
+fn link(servers: &[u16; PLACES], n: u16, previous: &mut [u16])
+    requires { ⌜ (n ≤ most-requests) × ((k : ℕ) → at (now servers) k < 64) × (length (now previous) ≡ places) ⌝ }
     ensures { λ _. ⌜ now (previous .exit) ≡ lent Passed (links (now (servers .entry)) n) (now (previous .entry)) ⌝ }
 {
     let mut recent = [NONE; 64];
@@ -62,7 +65,7 @@ fn link(servers: &[u16; 2049], n: u16, previous: &mut [u16])
 
 // Read a log, its requests from index 1 on.
 fn read_requests(log: &[u8], seconds: &mut [u32], servers: &mut [u16]) -> Decoded
-    requires { ⌜ (length (now seconds) ≡ 2049) × (length (now servers) ≡ 2049) ⌝ }
+    requires { ⌜ (length (now seconds) ≡ places) × (length (now servers) ≡ places) ⌝ }
     ensures { λ r. ⌜ r ≡ decoded (verdict-of (now (log .entry))) (now (log .entry)) ⌝ }
     ensures { λ _. ⌜ now (seconds .exit) ≡ take 1 (now (seconds .entry)) ++ lent (verdict-of (now (log .entry))) (seconds-of (now (log .entry))) (drop 1 (now (seconds .entry))) ⌝ }
     ensures { λ _. ⌜ now (servers .exit) ≡ take 1 (now (servers .entry)) ++ lent (verdict-of (now (log .entry))) (servers-of (now (log .entry))) (drop 1 (now (servers .entry))) ⌝ }
@@ -73,9 +76,9 @@ fn read_requests(log: &[u8], seconds: &mut [u32], servers: &mut [u16]) -> Decode
 // Read a log: the seconds and servers of its requests, the previous request of each, and what else it says.
 pub fn load(
     log: &[u8],
-    seconds: &mut [u32; 2049],
-    servers: &mut [u16; 2049],
-    previous: &mut [u16; 2049],
+    seconds: &mut [u32; PLACES],
+    servers: &mut [u16; PLACES],
+    previous: &mut [u16; PLACES],
 ) -> Loaded
     ensures { λ r. ⌜ r ≡ loaded (verdict-of (now (log .entry))) (now (log .entry)) ⌝ }
     ensures { λ _. ⌜ now (seconds .exit) ≡ lent (verdict-of (now (log .entry))) (seconds-with-home (now (log .entry))) (now (seconds .entry)) ⌝ }

@@ -9,6 +9,7 @@ ghost use Rattle.planner.specs.Asked.{asks};
 ghost use Rattle.planner.specs.Terms.{terms-of, cheaper, own-cost, next-cost};
 ghost use Rattle.planner.specs.Fits.{Ready, Owned};
 use crate::NONE;
+use crate::PLACES;
 use base::widths::size_from_u16;
 use base::widths::u64_from_u32;
 use prices::Prices;
@@ -33,9 +34,9 @@ fn held(hold: u32, from: u32, to: u32) -> u64
 // The terms of request i + 1.
 pub(crate) fn terms_at(
     prices: Prices,
-    seconds: &[u32; 2049],
-    servers: &[u16; 2049],
-    previous: &[u16; 2049],
+    seconds: &[u32; PLACES],
+    servers: &[u16; PLACES],
+    previous: &[u16; PLACES],
     i: u16,
 ) -> Terms
     requires { ⌜ Ready prices (now seconds) (now servers) (now previous) (suc i) ⌝ }
@@ -89,9 +90,9 @@ fn cheaper(a: Terms, sent: u64, kept: u64) -> u64
 // The least that request i + 1 costs by itself.
 fn own_cost(
     prices: Prices,
-    seconds: &[u32; 2049],
-    servers: &[u16; 2049],
-    previous: &[u16; 2049],
+    seconds: &[u32; PLACES],
+    servers: &[u16; PLACES],
+    previous: &[u16; PLACES],
     i: u16,
 ) -> u64
     requires { ⌜ Ready prices (now seconds) (now servers) (now previous) (suc i) ⌝ }
@@ -104,9 +105,9 @@ fn own_cost(
 // That of each of n requests, from place 1 of a list on.
 fn own_costs(
     prices: Prices,
-    seconds: &[u32; 2049],
-    servers: &[u16; 2049],
-    previous: &[u16; 2049],
+    seconds: &[u32; PLACES],
+    servers: &[u16; PLACES],
+    previous: &[u16; PLACES],
     n: u16,
     owns: &mut [u64],
 )
@@ -136,10 +137,10 @@ fn next_cost(transfer: u32, from: u16, own: u64, d: u64, v: u64) -> u64
 // The least cost of i requests where the gaps above c are covered.
 fn row(
     prices: Prices,
-    seconds: &[u32; 2049],
-    servers: &[u16; 2049],
-    previous: &[u16; 2049],
-    owns: &[u64; 2049],
+    seconds: &[u32; PLACES],
+    servers: &[u16; PLACES],
+    previous: &[u16; PLACES],
+    owns: &[u64; PLACES],
     costs: &[u64],
     keeps: &[u64],
     c: u16,
@@ -164,10 +165,10 @@ fn row(
 // D(i + 1), by the terms of that request; 0 where it cannot be kept.
 fn next_keep(
     prices: Prices,
-    seconds: &[u32; 2049],
-    servers: &[u16; 2049],
-    previous: &[u16; 2049],
-    owns: &[u64; 2049],
+    seconds: &[u32; PLACES],
+    servers: &[u16; PLACES],
+    previous: &[u16; PLACES],
+    owns: &[u64; PLACES],
     costs: &[u64],
     keeps: &[u64],
     a: Terms,
@@ -199,10 +200,10 @@ fn next_keep(
 // C(i + 1) and D(i + 1), after those up to i.
 fn extend(
     prices: Prices,
-    seconds: &[u32; 2049],
-    servers: &[u16; 2049],
-    previous: &[u16; 2049],
-    owns: &[u64; 2049],
+    seconds: &[u32; PLACES],
+    servers: &[u16; PLACES],
+    previous: &[u16; PLACES],
+    owns: &[u64; PLACES],
     i: u16,
     costs: &mut [u64],
     keeps: &mut [u64],
@@ -225,9 +226,9 @@ fn extend(
 // C(0) to C(n) and D(0) to D(n), at the front of two lists.
 pub(crate) fn fill(
     prices: Prices,
-    seconds: &[u32; 2049],
-    servers: &[u16; 2049],
-    previous: &[u16; 2049],
+    seconds: &[u32; PLACES],
+    servers: &[u16; PLACES],
+    previous: &[u16; PLACES],
     n: u16,
     costs: &mut [u64],
     keeps: &mut [u64],
@@ -242,7 +243,7 @@ pub(crate) fn fill(
     if n == 0 {
         return;
     }
-    let mut owns = [0u64; 2049];
+    let mut owns = [0u64; PLACES];
     own_costs(prices, seconds, servers, previous, n, &mut owns);
     let mut i: u16 = 0;
     while i < n {

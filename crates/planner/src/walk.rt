@@ -14,6 +14,7 @@ ghost use Rattle.planner.specs.Terms.{kept-by, sent-by};
 ghost use Rattle.planner.specs.Fits.{Ready};
 ghost use Rattle.planner.specs.Walked.{turned, Keeps};
 use crate::NONE;
+use crate::PLACES;
 use crate::table::Terms;
 use crate::table::terms_at;
 use base::widths::size_from_u16;
@@ -66,9 +67,9 @@ fn lower(a: u16, b: u16) -> u16
 // The step back from request i + 1: d is its D, v the cost of the requests up to it where the gaps above c are covered.
 fn step_back(
     prices: Prices,
-    seconds: &[u32; 2049],
-    servers: &[u16; 2049],
-    previous: &[u16; 2049],
+    seconds: &[u32; PLACES],
+    servers: &[u16; PLACES],
+    previous: &[u16; PLACES],
     i: u16,
     c: u16,
     d: u64,
@@ -97,9 +98,9 @@ fn step_back(
 // The letters of the plan's marks for n requests, from the last to the first, over the front of a list.
 pub(crate) fn write_marks(
     prices: Prices,
-    seconds: &[u32; 2049],
-    servers: &[u16; 2049],
-    previous: &[u16; 2049],
+    seconds: &[u32; PLACES],
+    servers: &[u16; PLACES],
+    previous: &[u16; PLACES],
     costs: &[u64],
     keeps: &[u64],
     n: u16,

@@ -1,13 +1,14 @@
 -- `log::conditions::lengths_outside` meets its contract. Assumes nothing.
 use borrow.Author.Tests.{lt-ltb, le-ltb}
+use Rattle.log.specs.Sizes.{most-requests}
 use Rattle.log.proofs.conditions.lengths_outside.Statement.{statement}
 use Rattle.log.proofs.conditions.lengths_outside.Tie as tie
 
 returns : tie.Need-returns
-returns c = rw (lt-ltb 2048 _ (c .if1 .taken))
+returns c = rw (lt-ltb most-requests _ (c .if1 .taken))
 
 returns-2 : tie.Need-returns-2
-returns-2 c = rw (le-ltb 2048 _ (c .if1 .left))
+returns-2 c = rw (le-ltb most-requests _ (c .if1 .left))
 
 pub lengths-outside-spec : {M : Type 1} → statement M
 lengths-outside-spec = tie.close (tie.spec returns returns-2)

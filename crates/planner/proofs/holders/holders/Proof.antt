@@ -5,6 +5,8 @@ use Prim.Native.Nat.{suc, _-_, _≤_, min}
 use native.Mathlib.Omega.{arith}
 use Rattle.model.specs.TableLists.{at}
 use Rattle.base.specs.Lists.{build}
+use Rattle.log.specs.Sizes.{most-requests}
+use Rattle.planner.specs.Sizes.{places}
 use Rattle.planner.specs.HolderWords.{kept-word, marking}
 use Rattle.planner.specs.GapWordLaws.{words-above, words-none, words-back, words-all, kept-none, kept-back}
 use Rattle.planner.proofs.holders.holders.Statement.{statement}
@@ -12,9 +14,9 @@ use Rattle.planner.proofs.holders.holders.Tie as tie
 
 abbrev Inv-loop : tie.InvT-loop
 Inv-loop servers letters n words₀ w₀ i₀ words w i =
-    (i ≤ min n 2048)
-    × (w ≡ kept-word (at servers) (marking letters) (suc i) (min n 2048 - i))
-    × (words ≡ build 2049 (words-above (at servers) (marking letters) (min n 2048) i))
+    (i ≤ min n most-requests)
+    × (w ≡ kept-word (at servers) (marking letters) (suc i) (min n most-requests - i))
+    × (words ≡ build places (words-above (at servers) (marking letters) (min n most-requests) i))
 
 abbrev μ-loop : tie.MeasureT-loop
 μ-loop servers letters n words₀ w₀ i₀ words w i = i
@@ -27,8 +29,8 @@ loop-holds c =
     let a = c .before .before .before .args in
     let s = at (a .servers .now) in (
       search needs,
-      rw (c .capped .ensures) (kept-none s (marking (a .letters .now)) (min (a .n) 2048)),
-      rw (c .capped .ensures) (words-none s (marking (a .letters .now)) (min (a .n) 2048) 2049),
+      rw (c .capped .ensures) (kept-none s (marking (a .letters .now)) (min (a .n) most-requests)),
+      rw (c .capped .ensures) (words-none s (marking (a .letters .now)) (min (a .n) most-requests) places),
     )
 
 sub-before : tie.Need-sub-before Inv-loop μ-loop
@@ -65,11 +67,11 @@ loop-again c =
     let a = p .before .before .before .before .before .before .before .before .args in
     let s = at (a .servers .now) in
     let m = marking (a .letters .now) in
-    let w : p .kept-step .result ≡ kept-word s m (suc (l .i - 1)) (min (a .n) 2048 - (l .i - 1)) =
-    p .kept-step .ensures ∙ rw (p .before .before .server .ensures, p .before .kept .ensures, l .inv .1) (kept-back s m (min (a .n) 2048) (l .i) (omega arith) (omega arith)) in (
+    let w : p .kept-step .result ≡ kept-word s m (suc (l .i - 1)) (min (a .n) most-requests - (l .i - 1)) =
+    p .kept-step .ensures ∙ rw (p .before .before .server .ensures, p .before .kept .ensures, l .inv .1) (kept-back s m (min (a .n) most-requests) (l .i) (omega arith) (omega arith)) in (
       search needs,
       w,
-      rw (c .or-server .ensures, w, c .before .server2 .ensures, l .inv .2) (words-back s m (min (a .n) 2048) 2049 (l .i) (omega arith) (omega arith) (omega arith)),
+      rw (c .or-server .ensures, w, c .before .server2 .ensures, l .inv .2) (words-back s m (min (a .n) most-requests) places (l .i) (omega arith) (omega arith) (omega arith)),
     )
 
 returns : tie.Need-returns Inv-loop μ-loop
@@ -79,7 +81,7 @@ returns c =
     let s = at (a .servers .now) in
     let m = marking (a .letters .now) in
     let e : l .i ≡ 0 = omega arith in
-    l .inv .2 ∙ rw e (words-all s m (min (a .n) 2048) 2049)
+    l .inv .2 ∙ rw e (words-all s m (min (a .n) most-requests) places)
 
 pub holders-spec : {M : Type 1} → statement M
 holders-spec =

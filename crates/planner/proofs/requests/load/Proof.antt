@@ -8,6 +8,7 @@ use Rattle.log.specs.Fields.{home-of, seconds-of, servers-of, header-of}
 use Rattle.log.specs.Conditions.{verdict-of, Accepted}
 use Rattle.log.specs.declared.Header.{Header}
 use Rattle.model.specs.LogRequests.{prices-in}
+use Rattle.planner.specs.Sizes.{places}
 use Rattle.planner.specs.Loading.{seconds-with-home, servers-with-home, summary-of, loaded}
 use Rattle.planner.specs.LoadedLaws.{decoded-requests, decoded-refused, home-loaded, home-kept, lent-small, links-loaded, log-fits}
 use Rattle.planner.proofs.requests.load.Statement.{statement}
@@ -39,7 +40,7 @@ link-requires c κs =
     let log = a .log .now in
     let known = c .before .before .before .before .outcome2 .given in
     let d = decoded-requests (verdict-of log) log (r .read-requests .result) _ (r .read-requests .ensures .0) (known .1) in
-    let long : length (a .servers .now) ≡ 2049 = search needs in
+    let long : length (a .servers .now) ≡ places = search needs in
     let now = home-loaded (verdict-of log) (a .servers .now) (servers-of log) _ (home-of log) _ (d .0) (r .read-requests .ensures .1 .1) (c .before .before .u16-from-u8 .ensures .0 ∙ ap (λ (h : Header). h .home) (d .2)) (omega arith) in
     (omega (arith, d .1, log-fits log (d .0) .requests-most), lent-small log (d .0) (a .servers .now) _ now, search needs)
 
@@ -68,8 +69,8 @@ returns-2 c =
     let log = a .log .now in
     let known = c .before .before .before .before .before .before .outcome2 .given in
     let d = decoded-requests (verdict-of log) log (r .read-requests .result) _ (r .read-requests .ensures .0) (known .1) in
-    let long : length (a .servers .now) ≡ 2049 = search needs in
-    let long₂ : length (a .seconds .now) ≡ 2049 = search needs in
+    let long : length (a .servers .now) ≡ places = search needs in
+    let long₂ : length (a .seconds .now) ≡ places = search needs in
     let now = home-loaded (verdict-of log) (a .servers .now) (servers-of log) _ (home-of log) _ (d .0) (r .read-requests .ensures .1 .1) (c .before .before .before .before .u16-from-u8 .ensures .0 ∙ ap (λ (h : Header). h .home) (d .2)) (omega arith) in (
       rw (d .0, d .1, c .of-class .ensures, d .2),
       (
