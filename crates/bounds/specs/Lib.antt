@@ -17,3 +17,4 @@ pub mod Agreement
 pub mod Follows
 pub mod Reached
 pub mod Onward
+pub mod ClaimLaws

@@ -31,7 +31,8 @@ use Rattle.online.specs.declared.Cache.{Cache}
 use Rattle.online.specs.Answers.{start-verdict, scan-verdict, close-verdict, started-by, started, scanned, closed-answer}
 use Rattle.online.specs.Passed.{start-passed}
 use Rattle.bounds.specs.Calls.{Call, scan, close, verdict, after}
-use Rattle.bounds.specs.Claim.{Claim, claim}
+use Rattle.bounds.specs.Claim.{Claim}
+use Rattle.bounds.specs.ClaimLaws.{claim}
 use Rattle.guarantees.specs.Optimality.{Optimal, optimal}
 
 -- the planner's answer for an accepted log cut to its first k requests

@@ -1,0 +1,97 @@
+-- The claim holds of every list of scan and close calls from a fresh state.
+use mathlib.Core.List.{List}
+use mathlib.Core.Path.{_≡_, refl, ap, _∙_}
+use native.Mathlib.Omega.{arith}
+use Prim.Native.Nat.{ℕ, _+_, _*_}
+use Rattle.prices.specs.declared.Prices.{Prices}
+use Rattle.prices.specs.Prices.{prices-of, window}
+use Rattle.prices.specs.PriceLaws.{class-in-range}
+use Rattle.log.specs.declared.Setup.{Setup}
+use Rattle.log.specs.Ranges.{Allowed}
+use Rattle.model.specs.Requests.{Requests, requests, Within}
+use Rattle.model.specs.Plan.{plan-cost}
+use Rattle.model.specs.PlanLaws.{plan-best}
+use Rattle.model.specs.PlanLeast.{plan-least}
+use Rattle.online.specs.declared.Cache.{Cache}
+use Rattle.online.specs.Rules.{class-prices, fresh, running}
+use Rattle.online.specs.Intact.{intact-unbroken}
+use Rattle.bounds.specs.Calls.{Call, run, requests-of}
+use Rattle.bounds.specs.Progress.{begun, taken, progress}
+use Rattle.bounds.specs.ProgressLaws as progress-laws
+use Rattle.bounds.specs.History.{held, running-cost}
+use Rattle.bounds.specs.WithinThree.{within-three}
+use Rattle.bounds.specs.NotBelow.{not-below}
+use Rattle.bounds.specs.Follows.{follows-of}
+use Rattle.bounds.specs.Reached.{reached-fresh, reached-intact}
+use Rattle.bounds.specs.Onward.{Along, Led, onward}
+use Rattle.bounds.specs.Claim.{Claim, served, served-count}
+
+module _ (s : Setup) (k : Allowed s) (calls : List Call) where
+  -- in short
+  abbrev p : Prices
+  p = prices-of (s .«class»)
+
+  abbrev c : Cache
+  c = run (fresh s) calls
+
+  abbrev q : Requests
+  q = served s (fresh s) calls
+
+  abbrev n : ℕ
+  n = served-count s (fresh s) calls
+
+  -- where the calls lead
+  led : Led s k q calls (fresh s) begun n
+  unfolding requests-of requests fresh begun
+  led =
+      onward s k q calls (fresh s) begun 0 n
+      (record { reached = reached-fresh s k q refl refl; second-is = refl; taken-is = refl; closed-is = refl })
+      (follows-of (s .home) (taken (s .«server_count») begun calls)) (omega arith)
+
+  end : Along s k q c (progress (s .«server_count») begun calls) n
+  end = led .along
+
+  -- the running cost is that of the history
+  running-is : running c ≡ running-cost p q 64 n
+  unfolding running class-prices running-cost
+  running-is =
+      let r = end .reached in
+      ap (λ (x : ℕ). prices-of x .hold * c .held + prices-of x .transfer * c .transfers) (r .class-is)
+      ∙ ap (λ (x : ℕ). p .hold * x + p .transfer * c .transfers) (r .agrees .held-are)
+      ∙ ap (λ (x : ℕ). p .hold * held (window p) q 64 n + p .transfer * x) (r .agrees .transfers-are)
+
+  -- all servers are below 64
+  within-64 : Within 64 q n
+  unfolding Within
+  within-64 i h = omega (arith, end .reached .within i h, k .servers-most)
+
+  -- every list of calls from a fresh state is as claimed
+  pub claim : Claim s (fresh s) calls
+  claim =
+      let r = end .reached in
+      record {
+        refused = led .refused;
+        never-32 = λ x m. progress-laws.never-32 (s .«server_count») begun calls x (rw (led .refused) at m);
+        unbroken = intact-unbroken c (reached-intact s k q c n r);
+        rising = r .rising;
+        within = r .within;
+        class-is = r .class-is;
+        count-is = r .count-is;
+        last-is = r .agrees .last-is;
+        second-is = r .agrees .second-is;
+        closed-is = end .closed-is;
+        requests-are = r .agrees .requests-are;
+        held-are = r .agrees .held-are;
+        transfers-are = r .agrees .transfers-are;
+        least = plan-cost p q n;
+        is-least = plan-least p (s .«server_count») q n (r .rising) (r .within);
+        is-planned = refl;
+        no-less = omega (arith, running-is, plan-best p q n, not-below p q 64 n (r .rising) within-64);
+        no-more =
+            omega (
+              arith,
+              running-is,
+              plan-best p q n,
+              within-three p q 64 n (class-in-range (s .«class») (omega (arith, k .class-most)) .hold-least) (r .rising) within-64,
+            );
+      }
