@@ -267,7 +267,8 @@ mod tests {
             let state = History { marks, transfers: cache.transfers, held: cache.held, standing: cache.holders };
             assert_eq!(state, history, "{header:?} {requests:?}");
             let least = planner::plan(&Log { header, requests }).cost;
-            assert!(least <= cache.running() && cache.running() <= 3 * least);
+            let running = cache.running().unwrap();
+            assert!(least <= running && running <= 3 * least);
         }
     }
 
