@@ -5,7 +5,7 @@
  * - each pointer has as many elements behind it as the length after it says; with length 0 it may be null;
  * - an output that is lent overlaps nothing else that the call is given: where it does, a wrong answer can come back as accepted;
  * - `closed` is 0 or 1: any other byte is not a bool;
- * - the stack has room: caching_plan takes 101 KB of it, caching_least 50 KB, any other call less than 2 KB (measured on x86-64).
+ * - the stack has room: caching_plan takes 101 KB of it, caching_least 50 KB, any other call less than 3 KB (measured on x86-64).
  *
  * A refused call gives the refusal's number and place, and values 0. What it was lent is left as it was; a read gives a header of zeros, a scan
  * and a close give the state back as it was handed in, a start gives a state of zeros. An accepted call gives number 0, place 0 and its values; what
