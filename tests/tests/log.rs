@@ -11,6 +11,16 @@ fn sums() {
 }
 
 #[test]
+fn factors() {
+    log::factors::<Library>();
+}
+
+#[test]
+fn wrong_sums() {
+    log::wrong_sums::<Library>();
+}
+
+#[test]
 fn every_byte() {
     log::every_byte::<Library>();
 }

@@ -2,11 +2,11 @@
 use mathlib.Core.List.{List, _∷_, _++_}
 use mathlib.Core.Path.{_≡_, refl, ap, ap₂, _∙_}
 use Prim.Native.Nat.{ℕ, zero, suc, _+_, _*_, _/_, _^_, _≤_, _<_}
-use native.Mathlib.Nat.{add-assoc}
+use native.Mathlib.Nat.{add-assoc, add-zero}
 use native.Mathlib.Numerals.{add-one}
 use native.Mathlib.Omega.{arith}
 use lib.ListN.{length, take, drop, List·getD-eq-default}
-use lib.Seq.{getD-append-add, drop-cons}
+use lib.Seq.{getD-append-add, getD-take, getD-drop, drop-cons}
 use Rattle.base.specs.Bytes.{byte, le16, le32, bytes, Are-bytes}
 
 -- bytes n x has n elements
@@ -47,6 +47,27 @@ le16-behind xs ys i = rw (add-assoc, byte-behind xs ys i, byte-behind xs ys (i +
 -- and one of four
 pub le32-behind : (xs ys : List ℕ) (i : ℕ) → le32 (xs ++ ys) (length xs + i) ≡ le32 ys i
 le32-behind xs ys i = simp (add-assoc, getD-append-add)
+
+-- a byte of a part is read in the whole
+byte-part : (s : List ℕ) (i n j : ℕ) → j < n → byte (take n (drop i s)) j ≡ byte s (i + j)
+byte-part s i n j h = getD-take n (drop i s) j 0 h ∙ getD-drop i s j 0
+
+-- and so is a number of two bytes
+pub le16-part : (s : List ℕ) (i n : ℕ) → 2 ≤ n → le16 (take n (drop i s)) 0 ≡ le16 s i
+le16-part s i n h = rw (byte-part s i n 0 (omega arith), byte-part s i n 1 (omega arith), add-zero i)
+
+-- and one of four
+pub le32-part : (s : List ℕ) (i n : ℕ) → 4 ≤ n → le32 (take n (drop i s)) 0 ≡ le32 s i
+le32-part s i n h =
+    let e : i + 2 + 1 ≡ i + 3 = omega arith in
+    rw (
+      byte-part s i n 0 (omega arith),
+      byte-part s i n 1 (omega arith),
+      byte-part s i n 2 (omega arith),
+      byte-part s i n 3 (omega arith),
+      add-zero i,
+      e,
+    )
 
 -- the number in the n bytes from i on
 unfoldable number : ℕ → List ℕ → ℕ → ℕ

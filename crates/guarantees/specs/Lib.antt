@@ -3,6 +3,7 @@ pub mod Week
 pub mod Weeks
 pub mod Optimality
 pub mod Calls
+pub mod Sums
 pub mod RoundTrips
 pub mod LogCalls
 pub mod CheckerAccepts

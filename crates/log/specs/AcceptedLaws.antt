@@ -16,8 +16,8 @@ use Rattle.base.specs.declared.Verdict.the-variants.{Passed}
 use Rattle.base.specs.Bytes.{le16, le32}
 use Rattle.base.specs.Lists.{build-length, build-at}
 use Rattle.log.specs.declared.Setup.{Setup}
-use Rattle.log.specs.Fields.{server-count, request-count, total-length, id-of, length-for, seconds-of, servers-of}
-use Rattle.log.specs.Conditions.{setup-conditions, header-conditions, before, request-conditions, log-conditions, verdict-of, Accepted}
+use Rattle.log.specs.Fields.{server-count, request-count, requests-offset, id-offset, total-length, id-of, length-for, seconds-of, servers-of}
+use Rattle.log.specs.Conditions.{setup-conditions, form-conditions, header-conditions, before, request-conditions, log-conditions, verdict-of, Accepted}
 use Rattle.log.specs.Contents.{Contents, contents-conditions}
 use Rattle.log.specs.Ranges.{Allowed, In-order, Sound, Proper, Writable}
 
@@ -90,6 +90,15 @@ module _ (n : ℕ) (seconds servers : List ℕ) (m : ℕ) where
       (passed-cons _ _ (lt-leb _ _ (f .later)) passed-nil))
 
 -- ---- the log
+
+-- where none of 1 to 9 holds the log is as long as its requests need
+pub form-length : (s : List ℕ) → first (form-conditions s) ≡ Passed → length s ≡ length-for (request-count s)
+unfolding setup-conditions
+form-length s a =
+    let f = first-passed (form-conditions s) .0 a in
+    let at-others = either-false (not (eqb (requests-offset s) 40)) _ (f 7) .1 in
+    let at-total = either-false (not (eqb (id-offset s) 24)) _ at-others .1 in
+    differ-false _ _ (f 8) ∙ differ-false _ _ at-total
 
 -- an accepted log is sound
 pub accepted-sound : (s : List ℕ) → Accepted s → Sound s

@@ -15,6 +15,8 @@ use crate::Header;
 use crate::MOST_REQUESTS;
 use crate::Setup;
 use crate::checksum::sum;
+use crate::requests::second_at;
+use crate::requests::server_at;
 use base::Refusal;
 use base::Verdict;
 use base::bytes::at;
@@ -124,6 +126,7 @@ fn place(i: usize) -> u64
 
 // 11 to 13 for each request of a log.
 fn requests_fault(log: &[u8]) -> Verdict
+    requires { ⌜ length (now log) ≡ length-for (request-count (now log)) ⌝ }
     ensures { λ r. ⌜ r ≡ first (each (request-conditions (server-count (now (log .entry))) (seconds-of (now (log .entry))) (servers-of (now (log .entry)))) (request-count (now (log .entry)))) ⌝ }
 {
     let count = at(log, 3);
@@ -132,8 +135,8 @@ fn requests_fault(log: &[u8]) -> Verdict
     let mut i: u16 = 0;
     while i < n {
         let k = size_from_u16(i);
-        let second = at32(log, 40 + 6 * k);
-        let v = request_fault(count, at16(log, 44 + 6 * k), second, earlier, place(k));
+        let second = second_at(log, k);
+        let v = request_fault(count, server_at(log, k), second, earlier, place(k));
         if let Verdict::Refused(r) = v {
             return Verdict::Refused(r);
         }

@@ -2,6 +2,7 @@
 mod checksum;
 mod conditions;
 mod reader;
+mod requests;
 mod writer;
 
 use base::Refusal;

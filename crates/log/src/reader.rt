@@ -13,10 +13,10 @@ use crate::Decoded;
 use crate::Header;
 use crate::ReadOutcome;
 use crate::conditions::verdict;
+use crate::requests::second_at;
+use crate::requests::server_at;
 use base::Verdict;
-use base::bytes::at;
 use base::bytes::at16;
-use base::bytes::at32;
 use base::bytes::clear16;
 use base::bytes::clear32;
 use base::refusals::or_else;
@@ -25,37 +25,39 @@ use base::widths::u64_from_u16;
 
 // The file id.
 fn id(log: &[u8]) -> [u8; 16]
+    requires { ⌜ 40 ≤ length (now log) ⌝ }
     ensures { λ r. ⌜ r ≡ id-of (now (log .entry)) ⌝ }
 {
     [
-        at(log, 24),
-        at(log, 25),
-        at(log, 26),
-        at(log, 27),
-        at(log, 28),
-        at(log, 29),
-        at(log, 30),
-        at(log, 31),
-        at(log, 32),
-        at(log, 33),
-        at(log, 34),
-        at(log, 35),
-        at(log, 36),
-        at(log, 37),
-        at(log, 38),
-        at(log, 39),
+        log[24],
+        log[25],
+        log[26],
+        log[27],
+        log[28],
+        log[29],
+        log[30],
+        log[31],
+        log[32],
+        log[33],
+        log[34],
+        log[35],
+        log[36],
+        log[37],
+        log[38],
+        log[39],
     ]
 }
 
 // What a log says of its file.
 fn header(log: &[u8]) -> Header
+    requires { ⌜ 40 ≤ length (now log) ⌝ }
     ensures { λ r. ⌜ r ≡ header-of (now (log .entry)) ⌝ }
 {
     let file = id(log);
     Header {
-        class: at(log, 2),
-        server_count: at(log, 3),
-        home: at(log, 4),
+        class: log[2],
+        server_count: log[3],
+        home: log[4],
         id: file,
     }
 }
@@ -72,48 +74,31 @@ fn blank() -> Header
     }
 }
 
-// The seconds of n requests, into the front of a list.
-fn put_seconds(log: &[u8], n: u16, out: &mut [u32])
-    requires { ⌜ n ≤ length (now out) ⌝ }
-    ensures { λ _. ⌜ now (out .exit) ≡ build n (λ i. le32 (now (log .entry)) (40 + 6 * i)) ++ drop n (now (out .entry)) ⌝ }
+// The seconds and servers of n requests, into the fronts of two lists.
+fn put_requests(log: &[u8], n: u16, seconds: &mut [u32], servers: &mut [u16])
+    requires { ⌜ (40 + 6 * n ≤ length (now log)) × (n ≤ length (now seconds)) × (n ≤ length (now servers)) ⌝ }
+    ensures { λ _. ⌜ now (seconds .exit) ≡ build n (λ i. le32 (now (log .entry)) (40 + 6 * i)) ++ drop n (now (seconds .entry)) ⌝ }
+    ensures { λ _. ⌜ now (servers .exit) ≡ build n (λ i. le16 (now (log .entry)) (44 + 6 * i)) ++ drop n (now (servers .entry)) ⌝ }
 {
     let mut i: u16 = 0;
     while i < n {
         let k = size_from_u16(i);
-        out[k] = at32(log, 40 + 6 * k);
+        seconds[k] = second_at(log, k);
+        servers[k] = server_at(log, k);
         i += 1;
     }
 }
 
-// The servers of n requests, into the front of a list.
-fn put_servers(log: &[u8], n: u16, out: &mut [u16])
-    requires { ⌜ n ≤ length (now out) ⌝ }
-    ensures { λ _. ⌜ now (out .exit) ≡ build n (λ i. le16 (now (log .entry)) (44 + 6 * i)) ++ drop n (now (out .entry)) ⌝ }
+// All n requests, and zeros after them.
+fn give_requests(log: &[u8], n: u16, seconds: &mut [u32], servers: &mut [u16])
+    requires { ⌜ (40 + 6 * n ≤ length (now log)) × (n ≤ length (now seconds)) × (n ≤ length (now servers)) ⌝ }
+    ensures { λ _. ⌜ now (seconds .exit) ≡ lent Passed (build n (λ i. le32 (now (log .entry)) (40 + 6 * i))) (now (seconds .entry)) ⌝ }
+    ensures { λ _. ⌜ now (servers .exit) ≡ lent Passed (build n (λ i. le16 (now (log .entry)) (44 + 6 * i))) (now (servers .entry)) ⌝ }
 {
-    let mut i: u16 = 0;
-    while i < n {
-        let k = size_from_u16(i);
-        out[k] = at16(log, 44 + 6 * k);
-        i += 1;
-    }
-}
-
-// All n seconds, and zeros after them.
-fn give_seconds(log: &[u8], n: u16, out: &mut [u32])
-    requires { ⌜ n ≤ length (now out) ⌝ }
-    ensures { λ _. ⌜ now (out .exit) ≡ lent Passed (build n (λ i. le32 (now (log .entry)) (40 + 6 * i))) (now (out .entry)) ⌝ }
-{
-    put_seconds(log, n, out);
-    clear32(out, size_from_u16(n));
-}
-
-// All n servers, and zeros after them.
-fn give_servers(log: &[u8], n: u16, out: &mut [u16])
-    requires { ⌜ n ≤ length (now out) ⌝ }
-    ensures { λ _. ⌜ now (out .exit) ≡ lent Passed (build n (λ i. le16 (now (log .entry)) (44 + 6 * i))) (now (out .entry)) ⌝ }
-{
-    put_servers(log, n, out);
-    clear16(out, size_from_u16(n));
+    let end = size_from_u16(n);
+    put_requests(log, n, seconds, servers);
+    clear32(seconds, end);
+    clear16(servers, end);
 }
 
 // The log's conditions, then 31 for seconds and for servers.
@@ -144,8 +129,7 @@ pub fn read(log: &[u8], seconds: &mut [u32], servers: &mut [u16]) -> Decoded
         };
     }
     let n = at16(log, 6);
-    give_seconds(log, n, seconds);
-    give_servers(log, n, servers);
+    give_requests(log, n, seconds, servers);
     Decoded {
         header: header(log),
         outcome: ReadOutcome::Requests(n),

@@ -12,13 +12,10 @@ use Rattle.base.specs.Lists.{build, build-at}
 use Rattle.base.specs.declared.Verdict.{Verdict}
 use Rattle.base.specs.declared.Verdict.the-variants.{Passed, Refused}
 use Rattle.prices.specs.PriceLaws.{class-in-range}
-use Rattle.log.specs.Fields.{class-of, request-count, servers-of, header-of}
+use Rattle.log.specs.Fields.{class-of, request-count, servers-of}
 use Rattle.log.specs.Conditions.{verdict-of, Accepted}
-use Rattle.log.specs.Answers.{decoded}
 use Rattle.log.specs.Ranges.{Sound}
 use Rattle.log.specs.AcceptedLaws.{accepted-sound, servers-length}
-use Rattle.log.specs.declared.Decoded.{Decoded}
-use Rattle.log.specs.declared.ReadOutcome.the-variants as read
 use Rattle.base.specs.declared.Refusal.{Refusal}
 use Rattle.model.specs.Requests.{Requests, requests, latest, previous}
 use Rattle.model.specs.TableLists.{at}
@@ -28,21 +25,6 @@ use Rattle.planner.specs.Asked.{asks}
 use Rattle.planner.specs.Terms.{index}
 use Rattle.planner.specs.Fits.{Fits, Ready}
 use Rattle.planner.specs.Loading.{seconds-with-home, servers-with-home, links}
-
--- a reader's answer that has a number of requests: the log is accepted, and has as many
-pub decoded-requests : (v : Verdict) (log : List ℕ) (d : Decoded) (n : ℕ) → d ≡ decoded v log → d .outcome ≡ read.Requests n
-    → (v ≡ Passed) × (n ≡ request-count log) × (d .header ≡ header-of log)
-unfolding decoded
-decoded-requests Passed log d n e f =
-    let z : n ≡ request-count log = cc in
-    (refl, z, ap (λ (x : Decoded). x .header) e)
-decoded-requests (Refused r) log d n e f = absurd (let z : _≡_ {A = ℕ} 0 1 = cc in omega arith)
-
--- one that refuses: so does the log's verdict
-pub decoded-refused : (v : Verdict) (log : List ℕ) (d : Decoded) (r : Refusal) → d ≡ decoded v log → d .outcome ≡ read.Refused r → v ≡ Refused r
-unfolding decoded
-decoded-refused Passed log d r e f = absurd (let z : _≡_ {A = ℕ} 0 1 = cc in omega arith)
-decoded-refused (Refused r′) log d r e f = cc
 
 -- home's element, put before a list that was lent
 home-put : (o xs : List ℕ) (h : ℕ) → 1 ≤ length o → set (take 1 o ++ lent Passed xs (drop 1 o)) 0 h ≡ lent Passed (h ∷ xs) o

@@ -1,7 +1,5 @@
 -- What the code takes from the answers of the calls that a sheet is made of. Assumes nothing.
 use Prim.Native.Nat.{ℕ}
-use Rattle.log.specs.declared.ReadOutcome.{ReadOutcome}
-use Rattle.log.specs.declared.ReadOutcome.the-variants as read
 use Rattle.planner.specs.declared.Planned.{Planned}
 use Rattle.planner.specs.declared.Planned.the-variants as planned′
 use Rattle.online.specs.declared.Cache.{Cache}
@@ -9,11 +7,6 @@ use Rattle.online.specs.declared.ScanOutcome.{ScanOutcome}
 use Rattle.online.specs.declared.ScanOutcome.the-variants as scan′
 use Rattle.online.specs.Answers.{scanned}
 use Rattle.report.specs.declared.live.Turn.{Turn}
-
--- the requests that a reader read; none where it refused
-unfoldable pub requests-read : ReadOutcome → ℕ
-requests-read (read.Requests n) = n
-requests-read (read.Refused r) = 0
 
 -- the rows of a plan; none where it was refused
 unfoldable pub rows-planned : Planned → ℕ

@@ -15,7 +15,6 @@ use Rattle.log.specs.Sizes.{most-requests}
 use Rattle.log.specs.Fields.{request-count, server-count, seconds-of, servers-of}
 use Rattle.log.specs.Conditions.{Accepted, log-conditions, verdict-of}
 use Rattle.log.specs.AcceptedLaws.{accepted-sound}
-use Rattle.log.specs.Answers.{read-verdict}
 use Rattle.online.specs.declared.Cache.{Cache}
 use Rattle.model.specs.FlatLaws.{flat-length}
 use Rattle.model.specs.LogRequests.{requests-in}
@@ -50,11 +49,6 @@ unfolding sheet-verdict room-verdict
 sheet-accepted log room a = passed-after log (short (length (sheet-of log)) room ∷ []) a
 
 module _ (log : List ℕ) (a : Accepted log) where
-  -- it is read
-  pub read-passes : read-verdict log most-requests most-requests ≡ Passed
-  unfolding read-verdict first
-  read-passes = passed-after log _ a ∙ rw (le-ltb most-requests (request-count log) (accepted-sound log a .requests-most))
-
   -- its least costs are found
   pub least-passes : least-verdict log places ≡ Passed
   unfolding least-verdict first

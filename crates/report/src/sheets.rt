@@ -5,27 +5,27 @@ ghost use lib.ListN.{length, take};
 ghost use Rattle.base.specs.Lent.{lent};
 ghost use Rattle.base.specs.declared.Verdict.the-variants.{Passed};
 ghost use Rattle.log.specs.Sizes.{most-requests};
-ghost use Rattle.log.specs.Fields.{seconds-of, servers-of};
-ghost use Rattle.log.specs.Conditions.{Accepted};
+ghost use Rattle.log.specs.Fields.{header-of, request-count, seconds-of, servers-of};
+ghost use Rattle.log.specs.Conditions.{Accepted, verdict-of};
 ghost use Rattle.log.specs.Answers.{decoded};
 ghost use Rattle.planner.specs.Sizes.{places};
 ghost use Rattle.planner.specs.Answers.{marks-of, planned-rows, least-costs};
 ghost use Rattle.text.specs.Answers.{printed};
 ghost use Rattle.report.specs.Sizes.{sheet-room};
 ghost use Rattle.report.specs.Sheet.{sheet-of, sheet-verdict, text-left};
-ghost use Rattle.report.specs.Replies.{requests-read, rows-planned};
+ghost use Rattle.report.specs.Replies.{rows-planned};
+ghost use Rattle.report.specs.Alike.{Alike};
 use crate::SHEET_ROOM;
 use crate::lines::put_lines;
 use crate::live::give_live;
 use crate::live::open;
-use base::Verdict;
 use base::widths::size_from_u16;
 use base::widths::u64_from_u32;
 use log::Decoded;
+use log::Header;
 use log::MOST_REQUESTS;
 use log::ReadOutcome;
 use log::read;
-use log::verdict;
 use planner::PLACES;
 use planner::Planned;
 use planner::ROWS_ROOM;
@@ -41,16 +41,6 @@ fn room() -> [u8; SHEET_ROOM]
     [0u8; SHEET_ROOM]
 }
 
-// The number of requests that were read.
-fn request_count(outcome: ReadOutcome) -> usize
-    ensures { λ r. ⌜ r ≡ requests-read outcome ⌝ }
-{
-    match outcome {
-        ReadOutcome::Requests(n) => size_from_u16(n),
-        ReadOutcome::Refused(_) => 0,
-    }
-}
-
 // The number of a plan's rows.
 fn row_count(planned: Planned) -> u64
     ensures { λ r. ⌜ r ≡ rows-planned planned ⌝ }
@@ -61,17 +51,17 @@ fn row_count(planned: Planned) -> u64
     }
 }
 
-// The requests of an accepted log.
+// Read a log, into lists that have room for any.
 fn read_requests(log: &[u8], seconds: &mut [u32], servers: &mut [u16]) -> Decoded
-    requires { ⌜ Accepted (now log) × (length (now seconds) ≡ most-requests) × (length (now servers) ≡ most-requests) ⌝ }
-    ensures { λ r. ⌜ r ≡ decoded Passed (now (log .entry)) ⌝ }
-    ensures { λ _. ⌜ now (seconds .exit) ≡ lent Passed (seconds-of (now (log .entry))) (now (seconds .entry)) ⌝ }
-    ensures { λ _. ⌜ now (servers .exit) ≡ lent Passed (servers-of (now (log .entry))) (now (servers .entry)) ⌝ }
+    requires { ⌜ (length (now seconds) ≡ most-requests) × (length (now servers) ≡ most-requests) ⌝ }
+    ensures { λ r. ⌜ r ≡ decoded (verdict-of (now (log .entry))) (now (log .entry)) ⌝ }
+    ensures { λ _. ⌜ now (seconds .exit) ≡ lent (verdict-of (now (log .entry))) (seconds-of (now (log .entry))) (now (seconds .entry)) ⌝ }
+    ensures { λ _. ⌜ now (servers .exit) ≡ lent (verdict-of (now (log .entry))) (servers-of (now (log .entry))) (now (servers .entry)) ⌝ }
 {
     read(log, seconds, servers)
 }
 
-// The marks of its plan, and the number of the plan's rows.
+// The marks of an accepted log's plan, and the number of the plan's rows.
 fn plan_marks(log: &[u8], marks: &mut [u8]) -> u64
     requires { ⌜ Accepted (now log) × (length (now marks) ≡ most-requests) ⌝ }
     ensures { λ r. ⌜ r ≡ length (planned-rows (now (log .entry))) ⌝ }
@@ -90,36 +80,32 @@ fn find_least(log: &[u8], costs: &mut [u64])
     least(log, costs);
 }
 
-// The sheet of an accepted log, at the front of a text that has room for any.
-fn put_sheet(log: &[u8], text: &mut [u8]) -> usize
-    requires { ⌜ Accepted (now log) × (sheet-room ≤ length (now text)) ⌝ }
+// The sheet of an accepted log, of what was read of it, at the front of a text that has room for any.
+fn put_sheet(
+    log: &[u8],
+    header: Header,
+    n: usize,
+    seconds: &[u32],
+    servers: &[u16],
+    text: &mut [u8],
+) -> usize
+    requires { ⌜ Accepted (now log) × (header ≡ header-of (now log)) × (n ≡ request-count (now log)) ⌝ }
+    requires { ⌜ Alike (now seconds) (seconds-of (now log)) × Alike (now servers) (servers-of (now log)) ⌝ }
+    requires { ⌜ (length (now seconds) ≡ most-requests) × (length (now servers) ≡ most-requests) × (sheet-room ≤ length (now text)) ⌝ }
     ensures { λ r. ⌜ (r ≤ length (now (text .exit))) × (take r (now (text .exit)) ≡ sheet-of (now (log .entry))) ⌝ }
 {
-    let mut seconds = [0u32; MOST_REQUESTS];
-    let mut servers = [0u16; MOST_REQUESTS];
     let mut marks = [0u8; MOST_REQUESTS];
     let mut costs = [0u64; PLACES];
     let mut live_marks = [0u8; MOST_REQUESTS];
     let mut live_costs = [0u64; MOST_REQUESTS];
-    let decoded = read_requests(log, &mut seconds, &mut servers);
-    let outcome = decoded.outcome;
-    let header = decoded.header;
-    let n = request_count(outcome);
     let rows = plan_marks(log, &mut marks);
     find_least(log, &mut costs);
     let cache = open(header);
-    give_live(
-        cache,
-        &seconds,
-        &servers,
-        n,
-        &mut live_marks,
-        &mut live_costs,
-    );
+    give_live(cache, seconds, servers, n, &mut live_marks, &mut live_costs);
     put_lines(
         text,
-        &seconds,
-        &servers,
+        seconds,
+        servers,
         &marks,
         &live_marks,
         &costs,
@@ -134,11 +120,17 @@ pub fn sheet(log: &[u8], text: &mut [u8]) -> Printed
     ensures { λ r. ⌜ r ≡ printed (sheet-verdict (now (log .entry)) (length (now (text .entry)))) (sheet-of (now (log .entry))) ⌝ }
     ensures { λ _. ⌜ now (text .exit) ≡ text-left (now (log .entry)) (now (text .entry)) ⌝ }
 {
-    let v = verdict(log);
-    if let Verdict::Refused(r) = v {
-        return Printed::Refused(r);
+    let mut seconds = [0u32; MOST_REQUESTS];
+    let mut servers = [0u16; MOST_REQUESTS];
+    let decoded = read_requests(log, &mut seconds, &mut servers);
+    let outcome = decoded.outcome;
+    let header = decoded.header;
+    match outcome {
+        ReadOutcome::Refused(r) => Printed::Refused(r),
+        ReadOutcome::Requests(n) => {
+            let mut page = room();
+            let end = put_sheet(log, header, size_from_u16(n), &seconds, &servers, &mut page);
+            give(&page[..end], text)
+        }
     }
-    let mut page = room();
-    let n = put_sheet(log, &mut page);
-    give(&page[..n], text)
 }

@@ -4,16 +4,31 @@ use super::{noise16, noise32, noise8, room, Met};
 use crate::calls::{Calls, Simple};
 use crate::log::{self, Header, Log, Request, LAST_SECOND, MOST_REQUESTS};
 use crate::random::{damaged_log, random_header, random_log, random_requests, Random};
-use crate::Refusal;
+use crate::{refuse, Refusal};
 
+/// Every small length and some long ones, with random bytes and with the greatest.
 pub fn sums<C: Calls>() {
     let mut random = Random::new(100);
-    for length in (0..200).chain([12_328, 12_329, 100_000]) {
+    let long: Vec<usize> = (0..200).map(|_| random.below(50_000) as usize).collect();
+    for length in (0..200).chain([12_328, 12_329, 12_330, 12_331, 100_000]).chain(long) {
         for _ in 0..3 {
             let file = random.bytes(length);
             assert_eq!(C::sum(&file), Simple::sum(&file), "{file:?}");
         }
         assert_eq!(C::sum(&vec![255; length]), Simple::sum(&vec![255; length]));
+    }
+}
+
+/// One byte alone at each place of each small length, which shows the place's own factor.
+pub fn factors<C: Calls>() {
+    for length in 0..=64 {
+        for at in 0..length {
+            for byte in [1, 255] {
+                let mut file = vec![0; length];
+                file[at] = byte;
+                assert_eq!(C::sum(&file), Simple::sum(&file), "{file:?}");
+            }
+        }
     }
 }
 
@@ -71,6 +86,27 @@ pub fn every_byte<C: Calls>() {
         }
     }
     met.exactly(&[0, 2, 3, 4, 5, 6, 7, 8, 10, 11, 12, 13], 2);
+}
+
+/// One byte changed in the setup, the sum itself, the id or the requests, so at places of every remainder by four: refused with 10 by every call.
+pub fn wrong_sums<C: Calls>() {
+    let mut random = Random::new(108);
+    let mut met = Met::default();
+    for count in 0..8 {
+        let header = Header { class: 1, server_count: 64, home: 3, id: *b"0123456789abcdef" };
+        let requests = random_requests(&mut random, &header, count);
+        let good = Log { header, requests }.bytes();
+        let flips = (20..good.len()).flat_map(|at| [1, 0x40, 0xff].map(|flip| (at, flip)));
+        for (at, flip) in [(2, 1), (3, 0x7f), (4, 1)].into_iter().chain(flips) {
+            let mut file = good.clone();
+            file[at] ^= flip;
+            met.count(&read::<C>(&mut random, &file, count, count));
+            assert_eq!(C::plan(&file, &mut [0; 8], &mut [0; 128]), refuse(10, 0));
+            assert_eq!(C::least(&file, &mut [0; 9]), refuse(10, 0));
+            assert_eq!(C::check(&file, &[]), refuse(10, 0));
+        }
+    }
+    met.exactly(&[10], 1_000);
 }
 
 /// A small log cut and lengthened to each length, its fields as they were or made to fit.

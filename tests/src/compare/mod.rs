@@ -75,6 +75,8 @@ mod tests {
     #[test]
     fn fast_log() {
         log::sums::<Fast>();
+        log::factors::<Fast>();
+        log::wrong_sums::<Fast>();
         log::every_byte::<Fast>();
         log::every_length::<Fast>();
         log::reads::<Fast>(11, 10_000);

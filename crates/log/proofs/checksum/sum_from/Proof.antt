@@ -1,63 +1,64 @@
 -- `log::checksum::sum_from` meets its contract. Assumes nothing.
 use borrow.Author.Needs.{needs}
-use mathlib.Core.Path.{_≡_}
-use Prim.Native.Nat.{_≤_, _-_}
-use native.Mathlib.Numerals.{add-one}
+use mathlib.Core.Path.{_≡_, sym, _∙_}
+use native.Mathlib.Nat.{sub-zero}
 use native.Mathlib.Omega.{arith}
-use lib.ListN.{length, drop}
-use lib.Seq.{drop-cons, drop-length}
+use Prim.Native.Nat.{_-_, _%_}
+use lib.ListN.{length, take, drop, length-drop}
+use lib.Seq.{take-all}
 use Rattle.log.specs.Sum.{sum-from}
+use Rattle.log.specs.SumLaws.{sum-cut}
 use Rattle.log.proofs.checksum.sum_from.Statement.{statement}
 use Rattle.log.proofs.checksum.sum_from.Tie as tie
 
-abbrev Inv-loop : tie.InvT-loop
-Inv-loop start bytes s₀ i₀ s i = (i ≤ length bytes) × (sum-from s (drop i bytes) ≡ sum-from start bytes)
+sub-whole : tie.Need-sub-whole
+sub-whole c = search needs
 
-abbrev μ-loop : tie.MeasureT-loop
-μ-loop start bytes s₀ i₀ s i = length bytes - i
+sub-by-fours : tie.Need-sub-by-fours
+sub-by-fours c = search needs
 
-loop-holds : tie.Need-loop-holds Inv-loop μ-loop
-loop-holds c = search needs
+part-by-fours-start : tie.Need-part-by-fours-start
+part-by-fours-start c = search needs
 
-shared-slice-read-step : tie.Need-shared-slice-read-step Inv-loop μ-loop
-shared-slice-read-step c = search needs
+part-by-fours-end : tie.Need-part-by-fours-end
+part-by-fours-end c = search needs
 
-step-requires : tie.Need-step-requires Inv-loop μ-loop
-step-requires c κs = search needs
+by-fours-requires : tie.Need-by-fours-requires
+by-fours-requires c κs = search needs
 
-add-i : tie.Need-add-i Inv-loop μ-loop
-add-i c = search needs
+sub-singly : tie.Need-sub-singly
+sub-singly c = search needs
 
-loop-less : tie.Need-loop-less Inv-loop μ-loop
-loop-less c = search needs
+part-singly-start : tie.Need-part-singly-start
+part-singly-start c = search needs
 
-loop-again : tie.Need-loop-again Inv-loop μ-loop
-unfolding sum-from
-loop-again c =
-    let bytes = c .before .before .before .before .before .args .bytes .now in
-    let i = c .before .before .before .loop .i in (
-      search needs,
-      rw (c .step .ensures, add-one i)
-          (rw (drop-cons bytes i 0 (search needs)) at (c .before .before .before .loop .inv .1)),
-    )
+part-singly-end : tie.Need-part-singly-end
+part-singly-end c = search needs
 
-returns : tie.Need-returns Inv-loop μ-loop
-unfolding sum-from
+singly-requires : tie.Need-singly-requires
+singly-requires c κs = search needs
+
+returns : tie.Need-returns
 returns c =
-    let bytes = c .before .before .before .args .bytes .now in
-    let e : c .before .loop .i ≡ length bytes = omega arith in
-    rw (e, drop-length) at (c .before .loop .inv .1)
+    let start = c .before .before .before .before .before .args .start in
+    let bytes = c .before .before .before .before .before .args .bytes .now in
+    let whole = length bytes - length bytes % 4 in
+    let rest : take (length bytes - whole) (drop whole bytes) ≡ drop whole bytes = take-all (length bytes - whole) (drop whole bytes) (simp length-drop (omega arith)) in
+    let front : c .before .before .by-fours .result ≡ sum-from start (take whole bytes) = simp sub-zero at (c .before .before .by-fours .ensures) in
+    let tail : c .singly .result ≡ sum-from (c .before .before .by-fours .result) (take (length bytes - whole) (drop whole bytes)) = c .singly .ensures in
+    tail ∙ rw (rest, front) (sym (sum-cut start whole bytes))
 
 pub sum-from-spec : {M : Type 1} → statement M
 sum-from-spec =
     tie.close
     (tie.spec
-    Inv-loop
-    μ-loop
-    loop-holds
-    shared-slice-read-step
-    step-requires
-    add-i
-    loop-less
-    loop-again
+    sub-whole
+    sub-by-fours
+    part-by-fours-start
+    part-by-fours-end
+    by-fours-requires
+    sub-singly
+    part-singly-start
+    part-singly-end
+    singly-requires
     returns)

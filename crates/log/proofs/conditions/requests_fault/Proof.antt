@@ -9,7 +9,7 @@ use Rattle.base.specs.Bytes.{le16, le32}
 use Rattle.base.specs.Refusals.{first, each}
 use Rattle.base.specs.RefusalLaws.{each-refused}
 use Rattle.base.specs.declared.Verdict.the-variants.{Passed}
-use Rattle.log.specs.Fields.{server-count, request-count, seconds-of}
+use Rattle.log.specs.Fields.{server-count, request-count, length-for, seconds-of}
 use Rattle.log.specs.Conditions.{before}
 use Rattle.log.specs.ConditionLaws.{log-requests, before-next, each-more}
 use Rattle.log.proofs.conditions.requests_fault.Statement.{statement}
@@ -34,23 +34,13 @@ loop-holds c = (search needs, refl, refl)
 size-from-u16-requires : tie.Need-size-from-u16-requires Inv-loop μ-loop
 size-from-u16-requires c κs = search needs
 
-mul-at32 : tie.Need-mul-at32 Inv-loop μ-loop
-mul-at32 c = search needs
+second-at-requires : tie.Need-second-at-requires Inv-loop μ-loop
+unfolding request-count length-for
+second-at-requires c κs = search needs
 
-add-at32 : tie.Need-add-at32 Inv-loop μ-loop
-add-at32 c = search needs
-
-at32-requires : tie.Need-at32-requires Inv-loop μ-loop
-at32-requires c κs = search needs
-
-mul-at16 : tie.Need-mul-at16 Inv-loop μ-loop
-mul-at16 c = search needs
-
-add-at16 : tie.Need-add-at16 Inv-loop μ-loop
-add-at16 c = search needs
-
-at16-requires-2 : tie.Need-at16-requires-2 Inv-loop μ-loop
-at16-requires-2 c κs = search needs
+server-at-requires : tie.Need-server-at-requires Inv-loop μ-loop
+unfolding request-count length-for
+server-at-requires c κs = search needs
 
 place-requires : tie.Need-place-requires Inv-loop μ-loop
 place-requires c κs = search needs
@@ -68,8 +58,8 @@ returns c =
     let l = p .before .before .before .before .before .before .loop in
     let log = p .before .before .before .before .before .before .before .before .before .before .args .log .now in
     let k : p .before .before .before .before .size-from-u16 .result ≡ l .i = p .before .before .before .before .size-from-u16 .ensures .0 in
-    let second : p .before .before .before .at32 .result ≡ le32 log (40 + 6 * l .i) = rw k at (p .before .before .before .at32 .ensures) in
-    let server : p .before .before .at162 .result ≡ le16 log (44 + 6 * l .i) = rw k at (p .before .before .at162 .ensures) in
+    let second : p .before .before .before .second-at .result ≡ le32 log (40 + 6 * l .i) = rw k at (p .before .before .before .second-at .ensures) in
+    let server : p .before .before .server-at .result ≡ le16 log (44 + 6 * l .i) = rw k at (p .before .before .server-at .ensures) in
     let place : p .before .place .result ≡ suc (l .i) = rw k at (p .before .place .ensures) in
     sym (each-refused (log-requests log) (l .i) (request-count log) _ (search needs) (l .inv .1)
     (request-found log (l .i) _ _ _ _ _ _ (search needs) (p .before .before .before .before .before .before .before .before .at .ensures) server second (l .inv .2) place (p .request-fault .ensures) ∙ c .before .v .given .1))
@@ -90,8 +80,8 @@ loop-again c =
     let l = p .before .before .before .before .before .before .loop in
     let log = p .before .before .before .before .before .before .before .before .before .before .args .log .now in
     let k : p .before .before .before .before .size-from-u16 .result ≡ l .i = p .before .before .before .before .size-from-u16 .ensures .0 in
-    let second : p .before .before .before .at32 .result ≡ le32 log (40 + 6 * l .i) = rw k at (p .before .before .before .at32 .ensures) in
-    let server : p .before .before .at162 .result ≡ le16 log (44 + 6 * l .i) = rw k at (p .before .before .at162 .ensures) in
+    let second : p .before .before .before .second-at .result ≡ le32 log (40 + 6 * l .i) = rw k at (p .before .before .before .second-at .ensures) in
+    let server : p .before .before .server-at .result ≡ le16 log (44 + 6 * l .i) = rw k at (p .before .before .server-at .ensures) in
     let place : p .before .place .result ≡ suc (l .i) = rw k at (p .before .place .ensures) in (
       search needs,
       rw (add-one (l .i))
@@ -119,12 +109,8 @@ requests-fault-spec =
     at16-requires
     loop-holds
     size-from-u16-requires
-    mul-at32
-    add-at32
-    at32-requires
-    mul-at16
-    add-at16
-    at16-requires-2
+    second-at-requires
+    server-at-requires
     place-requires
     request-fault-requires
     enum-known-v

@@ -1,6 +1,8 @@
 -- `log::conditions::verdict` meets its contract. Assumes nothing.
 use borrow.Author.Needs.{needs}
 use Rattle.base.specs.Refusals.{first}
+use mathlib.Core.Path.{sym, _∙_}
+use Rattle.log.specs.AcceptedLaws.{form-length}
 use Rattle.log.specs.ConditionLaws.{verdict-parts}
 use Rattle.log.proofs.conditions.verdict.Statement.{statement}
 use Rattle.log.proofs.conditions.verdict.Tie as tie
@@ -25,7 +27,9 @@ unfolding first
 returns-2 c = rw (verdict-parts, ← c .before .before .before .before .form-fault .ensures, c .before .before .enum-told .given .1, ← c .before .sum-differs .ensures, c .if1 .taken)
 
 requests-fault-requires : tie.Need-requests-fault-requires
-requests-fault-requires c κs = search needs
+requests-fault-requires c κs =
+    let told = c .before .before in
+    form-length _ (sym (told .before .before .form-fault .ensures) ∙ told .enum-told .given .1)
 
 returns-3 : tie.Need-returns-3
 unfolding first

@@ -7,18 +7,20 @@ use Rattle.log.proofs.reader.header.Tie as tie
 id-requires : tie.Need-id-requires
 id-requires c κs = search needs
 
-at-requires : tie.Need-at-requires
-at-requires c κs = search needs
+shared-slice-read-t4 : tie.Need-shared-slice-read-t4
+shared-slice-read-t4 c = search needs
 
-at-requires-2 : tie.Need-at-requires-2
-at-requires-2 c κs = search needs
+shared-slice-read-t6 : tie.Need-shared-slice-read-t6
+shared-slice-read-t6 c = search needs
 
-at-requires-3 : tie.Need-at-requires-3
-at-requires-3 c κs = search needs
+shared-slice-read-t8 : tie.Need-shared-slice-read-t8
+shared-slice-read-t8 c = search needs
 
 returns : tie.Need-returns
 unfolding header-of class-of server-count home-of
 returns c = cc
 
 pub header-spec : {M : Type 1} → statement M
-header-spec = tie.close (tie.spec id-requires at-requires at-requires-2 at-requires-3 returns)
+header-spec =
+    tie.close
+    (tie.spec id-requires shared-slice-read-t4 shared-slice-read-t6 shared-slice-read-t8 returns)

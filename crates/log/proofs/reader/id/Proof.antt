@@ -1,98 +1,81 @@
 -- `log::reader::id` meets its contract. Assumes nothing.
 use borrow.Author.Needs.{needs}
+use mathlib.Core.Path.{refl}
 use Rattle.base.specs.Lists.{build}
 use Rattle.log.specs.Fields.{id-of}
 use Rattle.log.proofs.reader.id.Statement.{statement}
 use Rattle.log.proofs.reader.id.Tie as tie
 
-at-requires : tie.Need-at-requires
-at-requires c κs = search needs
+shared-slice-read-t3 : tie.Need-shared-slice-read-t3
+shared-slice-read-t3 c = search needs
 
-at-requires-2 : tie.Need-at-requires-2
-at-requires-2 c κs = search needs
+shared-slice-read-t5 : tie.Need-shared-slice-read-t5
+shared-slice-read-t5 c = search needs
 
-at-requires-3 : tie.Need-at-requires-3
-at-requires-3 c κs = search needs
+shared-slice-read-t7 : tie.Need-shared-slice-read-t7
+shared-slice-read-t7 c = search needs
 
-at-requires-4 : tie.Need-at-requires-4
-at-requires-4 c κs = search needs
+shared-slice-read-t9 : tie.Need-shared-slice-read-t9
+shared-slice-read-t9 c = search needs
 
-at-requires-5 : tie.Need-at-requires-5
-at-requires-5 c κs = search needs
+shared-slice-read-t11 : tie.Need-shared-slice-read-t11
+shared-slice-read-t11 c = search needs
 
-at-requires-6 : tie.Need-at-requires-6
-at-requires-6 c κs = search needs
+shared-slice-read-t13 : tie.Need-shared-slice-read-t13
+shared-slice-read-t13 c = search needs
 
-at-requires-7 : tie.Need-at-requires-7
-at-requires-7 c κs = search needs
+shared-slice-read-t15 : tie.Need-shared-slice-read-t15
+shared-slice-read-t15 c = search needs
 
-at-requires-8 : tie.Need-at-requires-8
-at-requires-8 c κs = search needs
+shared-slice-read-t17 : tie.Need-shared-slice-read-t17
+shared-slice-read-t17 c = search needs
 
-at-requires-9 : tie.Need-at-requires-9
-at-requires-9 c κs = search needs
+shared-slice-read-t19 : tie.Need-shared-slice-read-t19
+shared-slice-read-t19 c = search needs
 
-at-requires-10 : tie.Need-at-requires-10
-at-requires-10 c κs = search needs
+shared-slice-read-t21 : tie.Need-shared-slice-read-t21
+shared-slice-read-t21 c = search needs
 
-at-requires-11 : tie.Need-at-requires-11
-at-requires-11 c κs = search needs
+shared-slice-read-t23 : tie.Need-shared-slice-read-t23
+shared-slice-read-t23 c = search needs
 
-at-requires-12 : tie.Need-at-requires-12
-at-requires-12 c κs = search needs
+shared-slice-read-t25 : tie.Need-shared-slice-read-t25
+shared-slice-read-t25 c = search needs
 
-at-requires-13 : tie.Need-at-requires-13
-at-requires-13 c κs = search needs
+shared-slice-read-t27 : tie.Need-shared-slice-read-t27
+shared-slice-read-t27 c = search needs
 
-at-requires-14 : tie.Need-at-requires-14
-at-requires-14 c κs = search needs
+shared-slice-read-t29 : tie.Need-shared-slice-read-t29
+shared-slice-read-t29 c = search needs
 
-at-requires-15 : tie.Need-at-requires-15
-at-requires-15 c κs = search needs
+shared-slice-read-t31 : tie.Need-shared-slice-read-t31
+shared-slice-read-t31 c = search needs
 
-at-requires-16 : tie.Need-at-requires-16
-at-requires-16 c κs = search needs
+shared-slice-read-t33 : tie.Need-shared-slice-read-t33
+shared-slice-read-t33 c = search needs
 
 returns : tie.Need-returns
 unfolding id-of build
-returns c =
-    simp (
-      c .at16 .ensures,
-      c .before .at15 .ensures,
-      c .before .before .at14 .ensures,
-      c .before .before .before .at13 .ensures,
-      c .before .before .before .before .at12 .ensures,
-      c .before .before .before .before .before .at11 .ensures,
-      c .before .before .before .before .before .before .at10 .ensures,
-      c .before .before .before .before .before .before .before .at9 .ensures,
-      c .before .before .before .before .before .before .before .before .at8 .ensures,
-      c .before .before .before .before .before .before .before .before .before .at7 .ensures,
-      c .before .before .before .before .before .before .before .before .before .before .at6 .ensures,
-      c .before .before .before .before .before .before .before .before .before .before .before .at5 .ensures,
-      c .before .before .before .before .before .before .before .before .before .before .before .before .at4 .ensures,
-      c .before .before .before .before .before .before .before .before .before .before .before .before .before .at3 .ensures,
-      c .before .before .before .before .before .before .before .before .before .before .before .before .before .before .at2 .ensures,
-      c .before .before .before .before .before .before .before .before .before .before .before .before .before .before .before .at .ensures,
-    )
+returns c = refl
 
 pub id-spec : {M : Type 1} → statement M
 id-spec =
     tie.close
     (tie.spec
-    at-requires
-    at-requires-2
-    at-requires-3
-    at-requires-4
-    at-requires-5
-    at-requires-6
-    at-requires-7
-    at-requires-8
-    at-requires-9
-    at-requires-10
-    at-requires-11
-    at-requires-12
-    at-requires-13
-    at-requires-14
-    at-requires-15
-    at-requires-16
+    shared-slice-read-t3
+    shared-slice-read-t5
+    shared-slice-read-t7
+    shared-slice-read-t9
+    shared-slice-read-t11
+    shared-slice-read-t13
+    shared-slice-read-t15
+    shared-slice-read-t17
+    shared-slice-read-t19
+    shared-slice-read-t21
+    shared-slice-read-t23
+    shared-slice-read-t25
+    shared-slice-read-t27
+    shared-slice-read-t29
+    shared-slice-read-t31
+    shared-slice-read-t33
     returns)

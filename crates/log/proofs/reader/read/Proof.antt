@@ -2,7 +2,9 @@
 use borrow.Author.Needs.{needs}
 use mathlib.Core.Path.{refl, sym, _∙_}
 use Rattle.base.specs.Lent.{lent}
-use Rattle.log.specs.Fields.{request-count, seconds-of, servers-of}
+use native.Mathlib.Omega.{arith}
+use Rattle.log.specs.AcceptedLaws.{accepted-sound}
+use Rattle.log.specs.Fields.{length-for, request-count, seconds-of, servers-of}
 use Rattle.log.specs.Answers.{decoded}
 use Rattle.log.specs.AnswerLaws.{read-passed}
 use Rattle.log.proofs.reader.read.Statement.{statement}
@@ -27,20 +29,20 @@ enum-told c = search needs
 at16-requires : tie.Need-at16-requires
 at16-requires c κs = search needs
 
-give-seconds-requires : tie.Need-give-seconds-requires
-unfolding request-count
-give-seconds-requires c κs =
-    let ok = read-passed _ _ _ (sym (c .before .before .before .before .read-fault .ensures) ∙ c .before .before .enum-told .given .1) in
-    rw (c .before .at16 .ensures) (ok .1)
-
-give-servers-requires : tie.Need-give-servers-requires
-unfolding request-count
-give-servers-requires c κs =
-    let ok = read-passed _ _ _ (sym (c .before .before .before .before .before .before .before .before .read-fault .ensures) ∙ c .before .before .before .before .before .before .enum-told .given .1) in
-    rw (c .before .before .before .before .before .at16 .ensures) (ok .2)
+give-requests-requires : tie.Need-give-requests-requires
+unfolding request-count length-for
+give-requests-requires c κs =
+    let told = c .before .before .before in
+    let ok = read-passed _ _ _ (sym (told .before .before .read-fault .ensures) ∙ told .enum-told .given .1) in
+    let long = accepted-sound _ (ok .0) .length-is in
+    rw (c .before .before .at16 .ensures) (omega (arith, long), ok .1, ok .2)
 
 header-requires : tie.Need-header-requires
-header-requires c κs = search needs
+unfolding length-for
+header-requires c κs =
+    let told = c .before .before .before .before .before .before .before .before in
+    let ok = read-passed _ _ _ (sym (told .before .before .read-fault .ensures) ∙ told .enum-told .given .1) in
+    omega (arith, accepted-sound _ (ok .0) .length-is)
 
 same-length : tie.Need-same-length
 same-length c = search needs
@@ -51,8 +53,11 @@ same-length-2 c = search needs
 returns-2 : tie.Need-returns-2
 unfolding decoded request-count seconds-of servers-of
 returns-2 c =
-    rw (← c .before .before .before .before .before .before .before .before .before .before .before .before .read-fault .ensures, c .before .before .before .before .before .before .before .before .before .before .enum-told .given .1, c .header .ensures, c .before .before .before .before .before .before .before .before .before .at16 .ensures)
-    (refl, (rw (c .before .before .before .before .before .before .before .before .before .at16 .ensures) at (c .before .before .before .before .before .before .before .give-seconds .ensures), rw (c .before .before .before .before .before .before .before .before .before .at16 .ensures) at (c .before .before .before .give-servers .ensures)))
+    let given = c .before .before .before .before .before in
+    let counted = given .before .before .before in
+    let told = counted .before in
+    rw (← told .before .before .read-fault .ensures, told .enum-told .given .1, c .header .ensures, counted .at16 .ensures)
+    (refl, rw (counted .at16 .ensures) at (given .give-requests .ensures))
 
 pub read-spec : {M : Type 1} → statement M
 read-spec =
@@ -64,8 +69,7 @@ read-spec =
     returns
     enum-told
     at16-requires
-    give-seconds-requires
-    give-servers-requires
+    give-requests-requires
     header-requires
     same-length
     same-length-2

@@ -6,11 +6,12 @@ use lib.ListN.{length}
 use Rattle.base.specs.Lent.{lent}
 use Rattle.log.specs.Fields.{home-of, seconds-of, servers-of, header-of}
 use Rattle.log.specs.Conditions.{verdict-of, Accepted}
+use Rattle.log.specs.AnswerLaws.{decoded-requests, decoded-refused}
 use Rattle.log.specs.declared.Header.{Header}
 use Rattle.model.specs.LogRequests.{prices-in}
 use Rattle.planner.specs.Sizes.{places}
 use Rattle.planner.specs.Loading.{seconds-with-home, servers-with-home, summary-of, loaded}
-use Rattle.planner.specs.LoadedLaws.{decoded-requests, decoded-refused, home-loaded, home-kept, lent-small, links-loaded, log-fits}
+use Rattle.planner.specs.LoadedLaws.{home-loaded, home-kept, lent-small, links-loaded, log-fits}
 use Rattle.planner.proofs.requests.load.Statement.{statement}
 use Rattle.planner.proofs.requests.load.Tie as tie
 

@@ -3,7 +3,8 @@ use borrow.Author.Needs.{needs}
 use mathlib.Core.Path.{ap, _∙_}
 use Rattle.base.specs.declared.Verdict.{Verdict}
 use Rattle.log.specs.Fields.{seconds-of, servers-of}
-use Rattle.planner.specs.LoadLaws.{read-long, behind-length, behind-back}
+use Rattle.planner.specs.LoadLaws.{behind-length, behind-back}
+use Rattle.log.specs.AnswerLaws.{read-long}
 use Rattle.log.specs.Answers.{decoded}
 use Rattle.planner.proofs.requests.read_requests.Statement.{statement}
 use Rattle.planner.proofs.requests.read_requests.Tie as tie
