@@ -1,4 +1,4 @@
--- What it means for a lent output that a call is not refused.
+-- What the answers of reader and writer mean, of the log and of lent outputs.
 use mathlib.Core.List.{List, [], _∷_}
 use mathlib.Core.Path.{_≡_, refl, sym, ap, _∙_}
 use Prim.Native.Nat.{ℕ, _+_, _*_, _≤_}

@@ -7,7 +7,7 @@ use base::bytes::at16;
 use base::bytes::at32;
 
 // The second of request k, from 0.
-pub fn second_at(log: &[u8], k: usize) -> u32
+pub(crate) fn second_at(log: &[u8], k: usize) -> u32
     requires { ⌜ 46 + 6 * k ≤ length (now log) ⌝ }
     ensures { λ r. ⌜ r ≡ le32 (now (log .entry)) (40 + 6 * k) ⌝ }
 {
@@ -16,7 +16,7 @@ pub fn second_at(log: &[u8], k: usize) -> u32
 }
 
 // Its server.
-pub fn server_at(log: &[u8], k: usize) -> u16
+pub(crate) fn server_at(log: &[u8], k: usize) -> u16
     requires { ⌜ 46 + 6 * k ≤ length (now log) ⌝ }
     ensures { λ r. ⌜ r ≡ le16 (now (log .entry)) (44 + 6 * k) ⌝ }
 {
