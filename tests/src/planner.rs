@@ -1,4 +1,4 @@
-//! 01, 'The plan'. The marks come from a plain dynamic program, or for few requests from trying all of them.
+//! 01, 'The plan', with the source of 02's request 03. The marks come from a plain dynamic program, or for few requests from trying all of them.
 
 use crate::checker::{cost_of, Row};
 use crate::log::Log;
@@ -89,12 +89,17 @@ impl Points {
         }
         for (i, mark) in (1..).zip(marks) {
             if *mark == Mark::S {
-                let source = *holders[i].first().unwrap();
-                rows.push(Row::Transfer { source, target: self.server[i], second: self.second[i] });
+                let target = self.server[i];
+                rows.push(Row::Transfer { source: nearest(&holders[i], target), target, second: self.second[i] });
             }
         }
         rows
     }
+}
+
+/// The server whose number is nearest the target's, the lower of two equally near.
+pub fn nearest(servers: &BTreeSet<u32>, target: u32) -> u32 {
+    servers.iter().copied().min_by_key(|&server| (server.abs_diff(target), server)).unwrap()
 }
 
 /// `costs[i][r]`: the least cost of requests 1 to i and of the gaps up to them, where the K spans of later

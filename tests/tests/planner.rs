@@ -26,6 +26,16 @@ fn all_markings() {
 }
 
 #[test]
+fn sources() {
+    planner::sources::<Library>(22, 10_000);
+}
+
+#[test]
+fn every_set_of_holders() {
+    planner::every_set_of_holders::<Library>();
+}
+
+#[test]
 fn all_sets() {
     planner::all_sets::<Library>(10, 20_000);
 }

@@ -5,6 +5,7 @@ pub mod Lists
 pub mod Bytes
 pub mod Refusals
 pub mod Sets
+pub mod Nearest
 pub mod Lent
 -- What is proved of them.
 pub mod ChoiceLaws
@@ -12,5 +13,7 @@ pub mod BytesLaws
 pub mod RefusalLaws
 pub mod SetLaws
 pub mod LowestLaws
+pub mod NearestLaws
 pub mod WordLaws
+pub mod NearestWord
 pub mod LentLaws

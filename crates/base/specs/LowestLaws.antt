@@ -1,7 +1,7 @@
 -- The laws of `lowest`: it is the one number up to n that no smaller one beats. Assumes nothing.
 use mathlib.Core.Bool.{Bool, true, false}
 use mathlib.Core.Logic.{_⊎_, inl, inr}
-use mathlib.Core.Path.{_≡_, refl, _∙_}
+use mathlib.Core.Path.{_≡_, refl}
 use Prim.Native.Nat.{ℕ, zero, suc, _≤_, _<_}
 use native.Mathlib.Omega.{arith}
 use borrow.Author.Tests.{lt-ltb, le-ltb}
@@ -48,19 +48,3 @@ lowest-passes n f k l h = elim (le-or-lt (lowest n f) k) [
   | inl g ↦ (g, omega arith, lowest-is n f .met (omega arith))
   | inr g ↦ absurd (not-both h (lowest-is n f .none k g))
 ]
-
--- tests that agree below n have the same lowest
-pub lowest-same : (n : ℕ) (f g : ℕ → Bool) → ((j : ℕ) → j < n → f j ≡ g j) → lowest n f ≡ lowest n g
-lowest-same n f g h =
-    let L = lowest-is n g in
-    lowest-unique n f (lowest n g) (record {
-      within = L .within;
-      none = λ j l. h j (omega (arith, L .within)) ∙ L .none j l;
-      met = λ l. h (lowest n g) l ∙ L .met l;
-    })
-
--- one found below m is the lowest below any larger n too
-pub lowest-wider : (m n : ℕ) (f : ℕ → Bool) → m ≤ n → lowest m f < m → lowest n f ≡ lowest m f
-lowest-wider m n f h l =
-    let L = lowest-is m f in
-    lowest-unique n f (lowest m f) (record { within = omega arith; none = L .none; met = λ g. L .met l })

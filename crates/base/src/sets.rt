@@ -3,6 +3,8 @@ ghost use mathlib.Core.Path.{_≡_};
 ghost use lib.Dec.{ltb};
 ghost use Rattle.base.specs.Choice.{pick};
 ghost use Rattle.base.specs.Sets.{has, put, cut, members, lowest};
+ghost use Rattle.base.specs.Nearest.{nearest};
+use crate::widths::u32_from_u16;
 
 // Is server k a member?
 pub fn has(w: u64, k: u16) -> bool
@@ -46,4 +48,24 @@ pub fn lowest(w: u64) -> u32
     ensures { λ r. ⌜ r ≡ lowest 64 (has w) ⌝ }
 {
     u64::trailing_zeros(w)
+}
+
+// The member nearest to t, the lower of two equally near, or 0 where the set is empty. `behind` is how far below t the next member is, its leading
+// zeros counted with t - 1 at the top of the word, and more than 64 where there is none; `ahead` how far from t on, and 64 where there is none.
+pub fn nearest(w: u64, t: u16) -> u32
+    ensures { λ r. ⌜ r ≡ nearest 64 (has w) t ⌝ }
+{
+    if w == 0 {
+        return 0;
+    }
+    if 64 <= t {
+        return 63 - u64::leading_zeros(w);
+    }
+    let at = u32_from_u16(t);
+    let behind = u64::leading_zeros(w << 1u16 << (63 - t)) + 1;
+    let ahead = lowest(w >> t);
+    if behind <= ahead {
+        return at - behind;
+    }
+    at + ahead
 }

@@ -2,15 +2,18 @@
 use mathlib.Core.Bool.{true}
 use mathlib.Core.List.{List}
 use mathlib.Core.Logic.{_↔_}
-use mathlib.Core.Path.{_≡_}
+use mathlib.Core.Path.{_≡_, sym}
 use Prim.Native.Nat.{ℕ, suc}
 use Rattle.base.specs.declared.Verdict.the-variants.{Passed}
 use Rattle.base.specs.Refusals.{first, nth}
+use Rattle.log.specs.Fields.{server-count, request-count}
+use Rattle.log.specs.Conditions.{Accepted}
 use Rattle.model.specs.Requests.{Requests}
-use Rattle.model.specs.Schedule.{Stands, Backed}
-use Rattle.model.specs.RowForm.{row-at, rows-of}
+use Rattle.model.specs.Schedule.{Row, Stands, Backed, Feasible, cost-of}
+use Rattle.model.specs.RowForm.{row-at, rows-of, flat, well-formed}
+use Rattle.model.specs.LogRequests.{requests-in, prices-in}
 use Rattle.model.specs.Checking.{copy-condition, serve-condition, form-conditions}
-use Rattle.model.specs.CheckingLaws.{unbacked, unserved}
+use Rattle.model.specs.CheckingLaws.{flat-scheduled, flat-cost, unbacked, unserved}
 use Rattle.checker.specs.declared.Checked.the-variants as answer
 use Rattle.checker.specs.Answers.{check-answer, Answered}
 use Rattle.checker.specs.Accepts.{answers-cost}
@@ -18,6 +21,19 @@ use Rattle.checker.specs.Accepts.{answers-cost}
 -- it answers a cost if and only if the log is accepted, the numbers are rows that are well formed and feasible for it, and that is their cost
 pub check-accepts : (log numbers : List ℕ) (cost : ℕ) → (check-answer log numbers ≡ answer.Cost cost) ↔ Answered log numbers cost
 check-accepts = answers-cost
+
+-- so rows that are well formed and feasible for an accepted log are accepted, with their cost
+pub schedule-accepted : (log : List ℕ) (rows : List Row) → Accepted log
+    → well-formed (server-count log) (request-count log) (requests-in log .time (request-count log)) rows ≡ true
+    → Feasible (requests-in log) (request-count log) rows
+    → check-answer log (flat rows) ≡ answer.Cost (cost-of (prices-in log) rows)
+schedule-accepted log rows accepted formed feasible =
+    check-accepts log (flat rows) (cost-of (prices-in log) rows) .1
+    (record {
+      log-accepted = accepted;
+      rows-accepted = flat-scheduled (server-count log) (requests-in log) (request-count log) rows formed feasible;
+      cost-is = sym (flat-cost (prices-in log) rows);
+    })
 
 -- the conditions 17 and 18 of a list of rows, over the relation Stands
 pub record By-standing (count : ℕ) (q : Requests) (numbers : List ℕ) : Type 0 where

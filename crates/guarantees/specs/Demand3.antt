@@ -1,5 +1,5 @@
 -- Demand 3 whole. The planner's half: every accepted log, cut to its first requests. The online half: every list of calls after a start.
-use mathlib.Core.List.{List, _++_}
+use mathlib.Core.List.{List}
 use mathlib.Core.Path.{_≡_, refl, ap, sym, _∙_}
 use Prim.Native.Nat.{ℕ, suc, _*_, _≤_}
 use native.Mathlib.Omega.{arith}
@@ -20,11 +20,9 @@ use Rattle.model.specs.LogRequestLaws.{log-rising, log-within, cut-alike, cut-p
 use Rattle.model.specs.Alike.{best-alike}
 use Rattle.model.specs.Plan.{plan-cost, plan-rows}
 use Rattle.model.specs.PlanLaws.{plan-best}
-use Rattle.model.specs.Checking.{schedule-conditions}
-use Rattle.model.specs.CheckingLaws.{flat-accepted, flat-cost}
 use Rattle.model.specs.RowForm.{flat}
 use Rattle.checker.specs.declared.Checked.the-variants as answer
-use Rattle.checker.specs.Answers.{check-conditions, check-verdict-of, checked, check-answer}
+use Rattle.checker.specs.Answers.{check-answer}
 use Rattle.planner.specs.declared.Planned.the-variants as planner
 use Rattle.planner.specs.Answers.{planned-rows, rows-of-plan, plan-verdict, planned, least-costs}
 use Rattle.online.specs.declared.Cache.{Cache}
@@ -33,6 +31,7 @@ use Rattle.online.specs.Passed.{start-passed}
 use Rattle.bounds.specs.Calls.{Call, scan, close, verdict, after}
 use Rattle.bounds.specs.Claim.{Claim}
 use Rattle.bounds.specs.ClaimLaws.{claim}
+use Rattle.guarantees.specs.CheckerAccepts.{schedule-accepted}
 use Rattle.guarantees.specs.Optimality.{Optimal, optimal}
 
 -- the planner's answer for an accepted log cut to its first k requests
@@ -87,13 +86,10 @@ module _ (log : List ℕ) (k : ℕ) (a : Accepted log) (h : k ≤ request-count 
       omega (arith, rows, accepted-sound log a .requests-most, h)
 
   checks : check-answer part (rows-of-plan part) ≡ answer.Cost (plan-cost (prices-in part) (requests-in part) k)
-  unfolding check-answer check-verdict-of check-conditions verdict-of Accepted checked
   checks =
       let rows = plan-rows (prices-in part) (requests-in part) (server-count part) k in
-      let v : first (log-conditions part ++ schedule-conditions (server-count part) (requests-in part) (request-count part) (flat rows)) ≡ Passed =
-      first-append (log-conditions part) _
-      ∙ rw (part-accepted, part-count) (flat-accepted (server-count part) (requests-in part) k rows (part-best .formed) (part-best .feasible)) in
-      rw (part-rows, v) (ap answer.Cost (flat-cost (prices-in part) rows ∙ part-best .costs))
+      rw part-rows
+      (schedule-accepted part rows part-accepted (rw part-count (part-best .formed)) (rw part-count (part-best .feasible)) ∙ ap answer.Cost (part-best .costs))
 
   answered : (marks rows : ℕ) → k ≤ marks → length (rows-of-plan part) ≤ rows → plan-verdict part marks rows ≡ Passed
   unfolding plan-verdict verdict-of Accepted first

@@ -7,5 +7,6 @@ pub mod Sums
 pub mod RoundTrips
 pub mod LogCalls
 pub mod CheckerAccepts
+pub mod Sources
 pub mod Demand3
 pub mod SheetColumns

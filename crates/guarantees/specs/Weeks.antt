@@ -6,6 +6,7 @@ use Prim.Native.Nat.{ℕ}
 use Rattle.base.specs.Lists.{build}
 use Rattle.base.specs.Refusals.{first, each}
 use Rattle.base.specs.Sets.{has, put, lowest}
+use Rattle.base.specs.Nearest.{distance, none-nearer, nearest}
 use Rattle.prices.specs.Prices.{classes, prices-of, window}
 use Rattle.log.specs.Fields.{version, class-of, server-count, home-of, request-count, requests-offset, id-offset, total-length, written-sum, length-for, seconds-of, servers-of}
 use Rattle.log.specs.Sum.{sum-from, sum-of}
@@ -56,10 +57,10 @@ weeks =
     ∷ planned (given 0 4 (5 ∷ 8 ∷ 11 ∷ 14 ∷ 26 ∷ 32 ∷ 40 ∷ []) (1 ∷ 2 ∷ 3 ∷ 0 ∷ 1 ∷ 1 ∷ 2 ∷ []))
     (0 ∷ 15 ∷ 28 ∷ 41 ∷ 44 ∷ 65 ∷ 71 ∷ 89 ∷ []) (0 ∷ 15 ∷ 31 ∷ 50 ∷ 62 ∷ 102 ∷ 114 ∷ 136 ∷ [])
     (s ∷ s ∷ s ∷ k ∷ k ∷ k ∷ s ∷ []) (s ∷ s ∷ s ∷ k ∷ s ∷ k ∷ s ∷ [])
-    (0 ∷ 0 ∷ 0 ∷ 14 ∷ 0 ∷ 1 ∷ 5 ∷ 40 ∷ 1 ∷ 0 ∷ 1 ∷ 5 ∷ 1 ∷ 0 ∷ 2 ∷ 8 ∷ 1 ∷ 0 ∷ 3 ∷ 11 ∷ 1 ∷ 1 ∷ 2 ∷ 40 ∷ [])
+    (0 ∷ 0 ∷ 0 ∷ 14 ∷ 0 ∷ 1 ∷ 5 ∷ 40 ∷ 1 ∷ 0 ∷ 1 ∷ 5 ∷ 1 ∷ 1 ∷ 2 ∷ 8 ∷ 1 ∷ 1 ∷ 3 ∷ 11 ∷ 1 ∷ 1 ∷ 2 ∷ 40 ∷ [])
     ∷ planned (given 0 3 (1 ∷ 2 ∷ 11 ∷ 12 ∷ []) (1 ∷ 2 ∷ 1 ∷ 0 ∷ []))
     (0 ∷ 11 ∷ 22 ∷ 31 ∷ 42 ∷ []) (0 ∷ 11 ∷ 23 ∷ 50 ∷ 62 ∷ []) (s ∷ s ∷ k ∷ k ∷ []) (s ∷ s ∷ k ∷ s ∷ [])
-    (0 ∷ 0 ∷ 0 ∷ 12 ∷ 0 ∷ 1 ∷ 1 ∷ 11 ∷ 1 ∷ 0 ∷ 1 ∷ 1 ∷ 1 ∷ 0 ∷ 2 ∷ 2 ∷ [])
+    (0 ∷ 0 ∷ 0 ∷ 12 ∷ 0 ∷ 1 ∷ 1 ∷ 11 ∷ 1 ∷ 0 ∷ 1 ∷ 1 ∷ 1 ∷ 1 ∷ 2 ∷ 2 ∷ [])
     ∷ tied (given 0 3 (1 ∷ 2 ∷ 11 ∷ 12 ∷ []) (1 ∷ 2 ∷ 1 ∷ 0 ∷ [])) 42 3
     ∷ planned (given 0 2 (1 ∷ 11 ∷ []) (1 ∷ 0 ∷ [])) (0 ∷ 11 ∷ 21 ∷ []) (0 ∷ 11 ∷ 31 ∷ []) (s ∷ k ∷ []) (s ∷ k ∷ [])
     (0 ∷ 0 ∷ 0 ∷ 11 ∷ 1 ∷ 0 ∷ 1 ∷ 1 ∷ [])
@@ -87,7 +88,7 @@ own-weeks =
 
 -- every line of the table holds
 pub weeks-right : all-right (weeks ++ own-weeks) ≡ true
-unfolding weeks own-weeks all-right right same as-numbers answer-numbers requests-in prices-in check-conditions check-verdict-of checked-by check-answer requests-given letter live-letter least-so-far plan-letters plan-numbers costs-from letters-from log-of build first each has put lowest classes prices-of window version class-of server-count home-of request-count requests-offset id-offset total-length written-sum length-for seconds-of servers-of sum-from sum-of setup-conditions header-conditions before request-conditions log-conditions verdict-of head request-bytes requests-bytes body encode sum total requests latest previous length-of is-transfer cost-of reach arrive through reached rounds standing stands numbers flat row-of row-at rows-upto rows-of fits earlier follows keeps some? legal gap begin after spans any covered holds own cost begins-run run-end hold-rows all-holds transfers source rows-from rows put-mark markings first-least least-of plan plan-cost plan-rows row-count misfits misplaced row-conditions backed copy-condition serve-condition schedule-conditions check-cost across set-of some-server class-prices window-of copy-at use-at fresh lasts kept uses stands-after next-use seconds accept running any-of server-broken broken scan-conditions start-verdict started-by started scan-verdict scanned-by scanned mark-outcome marks-of planned-rows least-costs after-call run digits decimal ascii line-end line list-word refusal-text heading entry-line entry-lines last-line sheet-text entry-of scans state-after live-mark live-cost opened live-marks running-costs columns-of sheet-of output-by output
+unfolding weeks own-weeks all-right right same as-numbers answer-numbers requests-in prices-in check-conditions check-verdict-of checked-by check-answer requests-given letter live-letter least-so-far plan-letters plan-numbers costs-from letters-from log-of build first each has put lowest distance none-nearer nearest classes prices-of window version class-of server-count home-of request-count requests-offset id-offset total-length written-sum length-for seconds-of servers-of sum-from sum-of setup-conditions header-conditions before request-conditions log-conditions verdict-of head request-bytes requests-bytes body encode sum total requests latest previous length-of is-transfer cost-of reach arrive through reached rounds standing stands numbers flat row-of row-at rows-upto rows-of fits earlier follows keeps some? legal gap begin after spans any covered holds own cost begins-run run-end hold-rows all-holds transfers source rows-from rows put-mark markings first-least least-of plan plan-cost plan-rows row-count misfits misplaced row-conditions backed copy-condition serve-condition schedule-conditions check-cost across set-of some-server class-prices window-of copy-at use-at fresh lasts kept uses stands-after next-use seconds accept running any-of server-broken broken scan-conditions start-verdict started-by started scan-verdict scanned-by scanned mark-outcome marks-of planned-rows least-costs after-call run digits decimal ascii line-end line list-word refusal-text heading entry-line entry-lines last-line sheet-text entry-of scans state-after live-mark live-cost opened live-marks running-costs columns-of sheet-of output-by output
 weeks-right = refl
 
 -- the two windows that 01's 'Prices' names: of class 4 and of class 6

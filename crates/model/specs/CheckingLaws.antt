@@ -233,17 +233,15 @@ module _ (count : ℕ) (q : Requests) (n : ℕ) (ns : List ℕ) (e : first (form
   unfolding serve-condition
   unserved i = fails-iff _ (there (q .server (suc i)) (q .time (suc i))) (found (q .server (suc i)) (q .time (suc i)))
 
--- well-formed and feasible rows, given as numbers, are accepted
-pub flat-accepted : (count : ℕ) (q : Requests) (n : ℕ) (rows : List Row) → well-formed count n (q .time n) rows ≡ true → Feasible q n rows
-    → first (schedule-conditions count q n (flat rows)) ≡ Passed
-flat-accepted count q n rows w f =
-    accepts-iff count q n (flat rows) .1
-    (record {
-      whole = omega (arith, flat-length rows);
-      kinds = λ i l. flat-kinds rows i;
-      shaped = rw (rows-of-flat rows) w;
-      feasible = rw (rows-of-flat rows) f;
-    })
+-- well-formed and feasible rows, given as numbers, are a schedule
+pub flat-scheduled : (count : ℕ) (q : Requests) (n : ℕ) (rows : List Row) → well-formed count n (q .time n) rows ≡ true → Feasible q n rows
+    → Scheduled count q n (flat rows)
+flat-scheduled count q n rows w f = record {
+  whole = omega (arith, flat-length rows);
+  kinds = λ i l. flat-kinds rows i;
+  shaped = rw (rows-of-flat rows) w;
+  feasible = rw (rows-of-flat rows) f;
+}
 
 -- with their cost
 pub flat-cost : (p : Prices) (rows : List Row) → check-cost p (flat rows) ≡ cost-of p rows

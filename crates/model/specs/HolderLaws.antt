@@ -84,6 +84,15 @@ module _ (q : Requests) (m : ℕ → Mark) where
             (q .server (r .0), w (r .0) (r .2), span-held (r .0) k (r .1) (r .2) (spans-true (r .0) k (r .3)))
         go (inr c) = (q .server (pred k), w (pred k) (omega arith), open-held k c)
 
+    -- and each holder is below the count, as the servers of the requests are
+    pub holder-below : (count : ℕ) → Within count q n → (k : ℕ) → 1 ≤ k → k ≤ n → (y : ℕ) → holds q m n k y ≡ true → y < count
+    unfolding Within
+    holder-below count w k a b y e = go (holds-true k y e)
+      where
+        go : Holder k y → y < count
+        go (by-span i c d p s) = omega (arith, w i d)
+        go (by-gap c p) = omega (arith, w (pred k) (omega arith))
+
     -- a server that holds over gap k + 1, and not over gap k if there is one, is that of request k
     pub new-holder : (k y : ℕ) → holds q m n (suc k) y ≡ true → (1 ≤ k → holds q m n k y ≡ false) → y ≡ q .server k
     new-holder k y e f = go (holds-true (suc k) y e)

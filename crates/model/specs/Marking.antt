@@ -6,7 +6,7 @@ use mathlib.Core.Path.{_≡_}
 use Prim.Native.Nat.{ℕ, zero, suc, pred, _+_, _-_, _*_, _≤_, _<_}
 use lib.Dec.{leb, ltb, eqb}
 use Rattle.base.specs.Choice.{pick, both, either}
-use Rattle.base.specs.Sets.{lowest}
+use Rattle.base.specs.Nearest.{nearest}
 use Rattle.prices.specs.declared.Prices.{Prices}
 use Rattle.model.specs.Sums.{sum}
 use Rattle.model.specs.Requests.{Requests, previous}
@@ -110,9 +110,9 @@ transfers q m source (suc i) =
     transfers q m source i
     ++ pick (keeps (m (suc i))) [] (move (transfer (source (suc i)) (q .server (suc i)) (q .time (suc i))) ∷ [])
 
--- the lowest-numbered server that holds over the gap before request i
+-- where a transfer to request i comes from: of the servers that hold over the gap before it the nearest to its own, the lower of two equally near
 unfoldable pub source : Requests → ℕ → (ℕ → Mark) → ℕ → ℕ → ℕ
-source q count m n i = lowest count (holds q m n i)
+source q count m n i = nearest count (holds q m n i) (q .server i)
 
 -- each S of the first n requests has a source below the count that holds over the gap before it
 abbrev pub Good : ℕ → Requests → (ℕ → Mark) → ℕ → (ℕ → ℕ) → Type 0
@@ -122,6 +122,6 @@ Good count q m n from = (i : ℕ) → 1 ≤ i → i ≤ n → m i ≡ S → (fro
 unfoldable pub rows-from : Requests → ℕ → (ℕ → Mark) → ℕ → (ℕ → ℕ) → List Row
 rows-from q count m n from = all-holds q m n count ++ transfers q m from n
 
--- the rows of a marking: S is sent from the lowest-numbered holder over the gap before it
+-- the rows of a marking: S is sent from the nearest holder over the gap before it
 unfoldable pub rows : Requests → ℕ → (ℕ → Mark) → ℕ → List Row
 rows q count m n = rows-from q count m n (source q count m n)

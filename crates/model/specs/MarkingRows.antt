@@ -1,10 +1,10 @@
 -- The rows of a legal marking: well formed, feasible, at most two for each request, and they cost what the marking costs.
-use mathlib.Core.Bool.{true, false}
+use mathlib.Core.Bool.{true}
 use mathlib.Core.List.{List}
-use mathlib.Core.Path.{_≡_}
-use Prim.Native.Nat.{ℕ, _*_, _≤_, _<_}
+use mathlib.Core.Path.{_≡_, sym}
+use Prim.Native.Nat.{ℕ, _*_, _≤_}
 use lib.ListN.{length}
-use Rattle.base.specs.LowestLaws.{Lowest, lowest-is, lowest-passes}
+use Rattle.base.specs.NearestLaws.{Nearest, nearest-is, nearest-unique}
 use Rattle.prices.specs.declared.Prices.{Prices}
 use Rattle.model.specs.Requests.{Requests, Rising, Within}
 use Rattle.model.specs.Schedule.{Row, Feasible, cost-of}
@@ -33,22 +33,27 @@ rows-from-realize q count m n from rise within valid good =
       costs = rows-cost q count m n from rise within valid;
     }
 
--- the lowest-numbered holder is a good source
-pub source-good : (q : Requests) (count : ℕ) (m : ℕ → Mark) (n : ℕ) → Within count q n → Good count q m n (source q count m n)
+-- the source of a transfer holds over the gap before its request, no holder is nearer, and of two equally near it is the lower
+pub source-nearest : (q : Requests) (count : ℕ) (m : ℕ → Mark) (n : ℕ) → Within count q n → (i : ℕ) → 1 ≤ i → i ≤ n
+    → Nearest count (holds q m n i) (q .server i) (source q count m n i)
 unfolding source
-source-good q count m n within i a b e =
+source-nearest q count m n within i a b =
     let h = gap-held q m n count within i a b in
-    let low = lowest-passes count (holds q m n i) (h .0) (h .1) (h .2) in
-    (low .1, low .2)
+    nearest-is (holds q m n i) (q .server i) count (h .0) (h .1) (h .2)
 
--- and no server with a lower number holds over that gap
-pub source-lowest : (q : Requests) (count : ℕ) (m : ℕ → Mark) (n i y : ℕ) → y < source q count m n i → holds q m n i y ≡ false
+-- and there is only one such server
+pub source-only : (q : Requests) (count : ℕ) (m : ℕ → Mark) (n i y : ℕ)
+    → Nearest count (holds q m n i) (q .server i) y → y ≡ source q count m n i
 unfolding source
-source-lowest q count m n i y h =
-    let lowest-holder : Lowest count (holds q m n i) (source q count m n i) = lowest-is count (holds q m n i) in
-    lowest-holder .none y h
+source-only q count m n i y N = sym (nearest-unique (holds q m n i) (q .server i) count y N)
 
--- with the lowest-numbered holders as sources
+-- so it is a good source
+pub source-good : (q : Requests) (count : ℕ) (m : ℕ → Mark) (n : ℕ) → Within count q n → Good count q m n (source q count m n)
+source-good q count m n within i a b e =
+    let N = source-nearest q count m n within i a b in
+    (N .within, N .passes)
+
+-- with the nearest holders as sources
 pub rows-realize : (q : Requests) (count : ℕ) (m : ℕ → Mark) (n : ℕ)
     → Rising q n → Within count q n → Valid q m n → Realizes q count m n (rows q count m n)
 unfolding rows

@@ -184,6 +184,21 @@ rows-cost q count m n from rise within valid p = rw (all-seconds, all-transfers,
           transfers-total q m n from is-transfer n,
         )
 
+-- as many rows, whatever the sources
+pub rows-as-many : (q : Requests) (count : ℕ) (m : ℕ → Mark) (n : ℕ) (from to : ℕ → ℕ)
+    → length (rows-from q count m n from) ≡ length (rows-from q count m n to)
+unfolding rows-from
+rows-as-many q count m n from to =
+    omega (
+      arith,
+      length-append (all-holds q m n count) (transfers q m from n),
+      length-append (all-holds q m n count) (transfers q m to n),
+      length-total (transfers q m from n),
+      length-total (transfers q m to n),
+      transfers-total q m n from (λ r. 1) n,
+      transfers-total q m n to (λ r. 1) n,
+    )
+
 -- at most two rows for each request
 pub rows-few : (q : Requests) (count : ℕ) (m : ℕ → Mark) (n : ℕ) (from : ℕ → ℕ) → Within count q n
     → length (rows-from q count m n from) ≤ 2 * n

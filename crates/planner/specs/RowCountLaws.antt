@@ -17,11 +17,10 @@ use Rattle.model.specs.SumLaws.{sum-same, sum-add, sum-zero}
 use Rattle.model.specs.Requests.{Requests, Within}
 use Rattle.model.specs.Schedule.{Row, move, transfer}
 use Rattle.model.specs.Marking.{Mark, keeps, begins-run, hold-rows, all-holds, transfers, source, rows-from, rows}
-use Rattle.model.specs.HolderLaws.{Holder, by-span, by-gap, holds-true}
 use Rattle.model.specs.RunLaws.{hold-rows-count}
 use Rattle.model.specs.Plan.{Agree}
 use Rattle.planner.specs.WordRows.{holder-at, word-holds}
-use Rattle.planner.specs.WordRowLaws.{Right, word-holds-right}
+use Rattle.planner.specs.WordRowLaws.{Right, member-below, word-holds-right}
 use Rattle.planner.specs.RowCount.{begun, sent-at, row-count}
 
 -- ---- words
@@ -138,16 +137,10 @@ row-count-more words m k = refl
 module _ (q : Requests) (m : ℕ → Mark) (n count : ℕ) (words : List ℕ) (right : Right q m n words) (within : Within count q n) (few : count ≤ 64) where
   -- no server from the count on holds
   none-over : (k : ℕ) → 1 ≤ k → k ≤ n → (y : ℕ) → count ≤ y → has (getD words k 0) y ≡ false
-  unfolding Within
-  none-over k a b y h = go (true-or-false (has (getD words k 0) y))
-    where
-      below : Holder q m n k y → y < count
-      below (by-span i c d p s) = omega (arith, within i d)
-      below (by-gap c p) = omega (arith, within (pred k) (omega arith))
-
-      go : (has (getD words k 0) y ≡ true) ⊎ (has (getD words k 0) y ≡ false) → has (getD words k 0) y ≡ false
-      go (inl e) = absurd (omega (arith, below (holds-true q m n k y (sym (right k a b y) ∙ e))))
-      go (inr e) = e
+  none-over k a b y h = elim (true-or-false (has (getD words k 0) y)) [
+    | inl e ↦ absurd (omega (arith, member-below q m n words right count within k a b y e))
+    | inr e ↦ e
+  ]
 
   -- so all the servers of the words begin as many holds as those below the count
   begun-starts : getD words 0 0 ≡ 0 → (k : ℕ) → 1 ≤ k → k ≤ n → begun words k ≡ starts words count k

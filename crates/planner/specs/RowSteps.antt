@@ -83,10 +83,10 @@ transfer-one q m from i e = rw e
 pub put-both : (times servers words : List ℕ) (m : ℕ → Mark) (n count next : ℕ) (o p r : List ℕ)
     → next ≡ length (word-holds (asks times []) words n count)
     → p ≡ put-rows 0 (word-holds (asks times []) words n count) o
-    → r ≡ put-rows next (transfers (asks times servers) m (word-source words) n) p
+    → r ≡ put-rows next (transfers (asks times servers) m (word-source (asks times servers) words) n) p
     → r ≡ put-rows 0 (word-rows (asks times servers) words count m n) o
 unfolding word-rows
 put-both times servers words m n count next o p r a b c =
     let holds = word-holds-times times [] servers words n count in
-    put-next 0 (word-holds (asks times servers) words n count) (transfers (asks times servers) m (word-source words) n) o next
-    (next + length (transfers (asks times servers) m (word-source words) n)) p r (omega (arith, ap length holds), b ∙ ap (λ (rows : List Row). put-rows 0 rows o) holds) refl c .1
+    put-next 0 (word-holds (asks times servers) words n count) (transfers (asks times servers) m (word-source (asks times servers) words) n) o next
+    (next + length (transfers (asks times servers) m (word-source (asks times servers) words) n)) p r (omega (arith, ap length holds), b ∙ ap (λ (rows : List Row). put-rows 0 rows o) holds) refl c .1

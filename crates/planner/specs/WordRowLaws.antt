@@ -1,19 +1,20 @@
 -- The rows by the holders' words are the rows of the marking.
-use mathlib.Core.Bool.{Bool}
+use mathlib.Core.Bool.{Bool, true}
 use mathlib.Core.List.{List, _++_}
 use mathlib.Core.Path.{_≡_, refl, sym, ap, ap₂, _∙_}
 use native.Mathlib.Omega.{arith}
 use Prim.Native.Nat.{ℕ, zero, suc, _+_, _-_, _≤_, _<_}
 use lib.ListN.{getD}
 use borrow.Author.Tests.{lt-ltb, le-leb}
-use Rattle.base.specs.Sets.{has, lowest}
+use Rattle.base.specs.Sets.{has}
 use Rattle.base.specs.Lists.{build, build-at}
-use Rattle.base.specs.LowestLaws.{lowest-same, lowest-wider, lowest-passes}
+use Rattle.base.specs.NearestLaws.{nearest-unique}
 use Rattle.model.specs.Requests.{Requests, Within}
 use Rattle.model.specs.Schedule.{Row}
 use Rattle.model.specs.Marking.{Mark, holds, begins-run, run-end, hold-rows, all-holds, transfers, source, rows-from, rows, Valid}
 use Rattle.model.specs.Plan.{Agree}
-use Rattle.model.specs.HolderLaws.{gap-held}
+use Rattle.model.specs.HolderLaws.{holder-below}
+use Rattle.model.specs.MarkingRows.{source-nearest}
 use Rattle.planner.specs.HolderWords.{kept-word, holders-word, gap-word}
 use Rattle.planner.specs.HolderWordLaws.{holders-has}
 use Rattle.planner.specs.WordRows.{holder-at, word-holds, word-source, word-rows}
@@ -83,18 +84,26 @@ module _ (q : Requests) (m : ℕ → Mark) (n : ℕ) (words : List ℕ) (right :
       ap₂ (λ (x z : List Row). x ++ z) (word-holds-right y)
       (hold-rows-same q (holder-at words y) (λ k. holds q m n k y) n y n (λ l a b. right l a b y) (omega arith))
 
+  -- a member of a gap's word is a holder, so below the count
+  pub member-below : (count : ℕ) → Within count q n → (k : ℕ) → 1 ≤ k → k ≤ n → (y : ℕ) → has (getD words k 0) y ≡ true → y < count
+  member-below count within k a b y e = holder-below q m n count within k a b y (sym (right k a b y) ∙ e)
+
   -- the sources are those of the marking
-  pub word-source-right : (count : ℕ) → Within count q n → count ≤ 64 → (i : ℕ) → 1 ≤ i → i ≤ n → word-source words i ≡ source q count m n i
-  unfolding word-source source
+  pub word-source-right : (count : ℕ) → Within count q n → count ≤ 64 → (i : ℕ) → 1 ≤ i → i ≤ n → word-source q words i ≡ source q count m n i
+  unfolding word-source
   word-source-right count within few i a b =
-      let h = gap-held q m n count within i a b in
-      let same : lowest count (has (getD words i 0)) ≡ lowest count (holds q m n i) = lowest-same count (has (getD words i 0)) (holds q m n i) (λ y l. right i a b y) in
-      let p = lowest-passes count (holds q m n i) (h .0) (h .1) (h .2) in
-      lowest-wider count 64 (has (getD words i 0)) few (omega (arith, p .1)) ∙ same
+      let N = source-nearest q count m n within i a b in
+      let holder : (z : ℕ) → has (getD words i 0) z ≡ true → holds q m n i z ≡ true = λ z e. sym (right i a b z) ∙ e in
+      nearest-unique (has (getD words i 0)) (q .server i) 64 (source q count m n i) (record {
+        within = omega (arith, N .within);
+        passes = right i a b (source q count m n i) ∙ N .passes;
+        least = λ z l e. N .least z (member-below count within i a b z e) (holder z e);
+        lower = λ z l e. N .lower z (member-below count within i a b z e) (holder z e);
+      })
 
   -- and so are the rows
   pub word-rows-right : (m′ : ℕ → Mark) (count : ℕ) → Agree n m m′ → Within count q n → count ≤ 64 → word-rows q words count m′ n ≡ rows q count m n
   unfolding word-rows rows rows-from
   word-rows-right m′ count agree within few =
       ap₂ (λ (x z : List Row). x ++ z) (word-holds-right count)
-      (transfers-same q m′ m (word-source words) (source q count m n) n n (λ l a b. sym (agree l a b)) (word-source-right count within few) (omega arith))
+      (transfers-same q m′ m (word-source q words) (source q count m n) n n (λ l a b. sym (agree l a b)) (word-source-right count within few) (omega arith))

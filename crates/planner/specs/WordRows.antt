@@ -4,7 +4,8 @@ use mathlib.Core.List.{List, [], _∷_, _++_}
 use Prim.Native.Nat.{ℕ, zero, suc, _-_}
 use lib.ListN.{getD}
 use Rattle.base.specs.Choice.{pick}
-use Rattle.base.specs.Sets.{has, lowest}
+use Rattle.base.specs.Sets.{has}
+use Rattle.base.specs.Nearest.{nearest}
 use Rattle.model.specs.Requests.{Requests}
 use Rattle.model.specs.Schedule.{Row, hold, move, transfer}
 use Rattle.model.specs.Marking.{Mark, keeps, begins-run, run-end, hold-rows, transfers}
@@ -22,9 +23,9 @@ word-holds q words n (suc y) = word-holds q words n y ++ hold-rows q (holder-at 
 unfoldable pub new-hold : Requests → (ℕ → Bool) → ℕ → ℕ → ℕ → List Row
 new-hold q f n y k = pick (begins-run f (suc k)) (hold y (q .time k) (q .time (run-end f (suc k) (n - suc k))) ∷ []) []
 
--- the lowest-numbered holder over the gap before request i
-unfoldable pub word-source : List ℕ → ℕ → ℕ
-word-source words i = lowest 64 (has (getD words i 0))
+-- of the holders over the gap before request i the nearest to its server, the lower of two equally near
+unfoldable pub word-source : Requests → List ℕ → ℕ → ℕ
+word-source q words i = nearest 64 (has (getD words i 0)) (q .server i)
 
 -- the transfer to request i + 1, if it is S
 unfoldable pub new-transfer : Requests → (ℕ → Mark) → (ℕ → ℕ) → ℕ → List Row
@@ -32,4 +33,4 @@ new-transfer q m from i = pick (keeps (m (suc i))) [] (move (transfer (from (suc
 
 -- the rows: the holds, then the transfers
 unfoldable pub word-rows : Requests → List ℕ → ℕ → (ℕ → Mark) → ℕ → List Row
-word-rows q words count m n = word-holds q words n count ++ transfers q m (word-source words) n
+word-rows q words count m n = word-holds q words n count ++ transfers q m (word-source q words) n

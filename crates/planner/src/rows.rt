@@ -4,7 +4,6 @@ ghost use mathlib.Core.List.{[], _∷_};
 ghost use Prim.Native.Nat.{_+_, _-_, _*_, _<_, _≤_};
 ghost use lib.ListN.{length};
 ghost use Rattle.base.specs.Lists.{splice};
-ghost use Rattle.base.specs.Sets.{has, lowest};
 ghost use Rattle.model.specs.Marking.{begins-run, run-end, hold-rows, transfers};
 ghost use Rattle.planner.specs.HolderWords.{marking};
 ghost use Rattle.planner.specs.RowWriting.{put-rows};
@@ -15,7 +14,7 @@ use crate::reads::second;
 use crate::reads::server;
 use crate::reads::word;
 use base::sets::has;
-use base::sets::lowest;
+use base::sets::nearest;
 use base::widths::size_from_u16;
 use base::widths::size_from_u32;
 use base::widths::u16_from_u8;
@@ -126,14 +125,7 @@ fn put_holds(times: &[u32], words: &[u64], n: usize, count: u16, out: &mut [u32]
     next
 }
 
-// The source of a transfer: the lowest-numbered holder over the gap before it.
-fn source(w: u64) -> u32
-    ensures { λ r. ⌜ r ≡ lowest 64 (has w) ⌝ }
-{
-    lowest(w)
-}
-
-// The transfer to request k + 1, if it is S, as row `at`; the number of the next row.
+// The transfer to request k + 1, if it is S, from the nearest holder over the gap before it, as row `at`; the number of the next row.
 fn put_transfer(
     times: &[u32],
     servers: &[u16],
@@ -144,18 +136,19 @@ fn put_transfer(
     out: &mut [u32],
 ) -> u32
     requires { ⌜ (k < 65536) × (at < 2147483648) ⌝ }
-    ensures { λ r. ⌜ (r ≡ at + length (new-transfer (asks (now (times .entry)) (now (servers .entry))) (marking (now (letters .entry))) (word-source (now (words .entry))) k)) × (r ≤ at + 1) × (now (out .exit) ≡ put-rows at (new-transfer (asks (now (times .entry)) (now (servers .entry))) (marking (now (letters .entry))) (word-source (now (words .entry))) k) (now (out .entry))) ⌝ }
+    ensures { λ r. ⌜ (r ≡ at + length (new-transfer (asks (now (times .entry)) (now (servers .entry))) (marking (now (letters .entry))) (word-source (asks (now (times .entry)) (now (servers .entry))) (now (words .entry))) k)) × (r ≤ at + 1) × (now (out .exit) ≡ put-rows at (new-transfer (asks (now (times .entry)) (now (servers .entry))) (marking (now (letters .entry))) (word-source (asks (now (times .entry)) (now (servers .entry))) (now (words .entry))) k) (now (out .entry))) ⌝ }
 {
     if kept(letters, k) {
         return at;
     }
     let i = k + 1;
+    let target = server(servers, i);
     put_row(
         out,
         at,
         1,
-        source(word(words, i)),
-        u32_from_u16(server(servers, i)),
+        nearest(word(words, i), target),
+        u32_from_u16(target),
         second(times, i),
     );
     at + 1
@@ -172,7 +165,7 @@ fn put_transfers(
     out: &mut [u32],
 )
     requires { ⌜ (n < 65536) × (at < 1073741824) ⌝ }
-    ensures { λ _. ⌜ now (out .exit) ≡ put-rows at (transfers (asks (now (times .entry)) (now (servers .entry))) (marking (now (letters .entry))) (word-source (now (words .entry))) n) (now (out .entry)) ⌝ }
+    ensures { λ _. ⌜ now (out .exit) ≡ put-rows at (transfers (asks (now (times .entry)) (now (servers .entry))) (marking (now (letters .entry))) (word-source (asks (now (times .entry)) (now (servers .entry))) (now (words .entry))) n) (now (out .entry)) ⌝ }
 {
     let mut next = at;
     let mut k: usize = 0;

@@ -250,16 +250,36 @@ fn hold_rows(
     next
 }
 
-// The lowest-numbered of four servers that holds over the gap that request k + 1 ends.
+// How far apart two servers are.
+fn apart(a: u16, b: u16) -> u16 {
+    if a < b {
+        return b - a;
+    }
+    a - b
+}
+
+// Server y is nearer to the target than the one found so far; 4 is none.
+fn nearer(y: u16, found: u16, target: u16) -> bool {
+    if found == 4 {
+        return true;
+    }
+    apart(y, target) < apart(found, target)
+}
+
+// Of four servers the one that holds over the gap that request k + 1 ends and is nearest to the request's own, the lower of two.
 fn source(servers: &[u16; 8], n: usize, marks: u32, k: usize) -> u16 {
+    let target = server(servers, after(k));
+    let mut found: u16 = 4;
     let mut y: u16 = 0;
     while y < 4 {
         if holds(servers, n, marks, y, k) {
-            return y;
+            if nearer(y, found, target) {
+                found = y;
+            }
         }
         y += 1;
     }
-    y
+    found
 }
 
 fn transfer_row(

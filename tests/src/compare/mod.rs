@@ -103,6 +103,8 @@ mod tests {
         planner::random_logs::<Fast>(17, 5_000);
         planner::damaged_logs::<Fast>(18, 1_000);
         planner::all_markings::<Fast>(19, 500);
+        planner::sources::<Fast>(23, 500);
+        planner::every_set_of_holders::<Fast>();
         planner::all_sets::<Fast>(20, 500);
         planner::all_schedules::<Fast>();
         planner::every_small_log_by_sets::<Fast>(3);

@@ -8,6 +8,7 @@ use crate::prices::Prices;
 use crate::random::{damaged_log, random_header, random_log, random_requests, Random};
 use crate::search::{least_by_schedules, least_by_sets, lists_of_gaps};
 use crate::Refusal;
+use std::collections::BTreeSet;
 
 /// The plan of a file, with outputs of the given lengths.
 fn plan<C: Calls>(random: &mut Random, file: &[u8], marks: usize, rows: usize) -> Result<(u64, u32), Refusal> {
@@ -119,6 +120,51 @@ pub fn all_markings<C: Calls>(seed: u64, times: usize) {
         let Plan { cost: other, marks: letters, rows: other_rows } = planner::plan_by_all_markings(&log);
         assert_eq!((cost, marks), (other, letters.into_iter().map(letter).collect()), "{log:?}");
         assert_eq!(rows, other_rows.iter().flat_map(|row| row.numbers()).collect::<Vec<_>>(), "{log:?}");
+    }
+}
+
+/// The servers with a hold that began before a second and reaches it.
+fn holders(rows: &[u32], second: u32) -> BTreeSet<u32> {
+    rows.chunks(4).filter(|row| row[0] == 0 && row[2] < second && second <= row[3]).map(|row| row[1]).collect()
+}
+
+/// Each planned transfer leaves the nearest of the servers that hold up to its second. From any of them the checker takes it, for the same cost.
+pub fn sources<C: Calls>(seed: u64, times: usize) {
+    let mut random = Random::new(seed);
+    let (mut not_lowest, mut equally_near) = (0, 0);
+    for _ in 0..times {
+        let log = random_log(&mut random, 60);
+        let (cost, _, rows, _) = answers::<C>(&log);
+        let mut others = rows.clone();
+        for (row, other) in rows.chunks(4).zip(others.chunks_mut(4)).filter(|(row, _)| row[0] == 1) {
+            let (source, target) = (row[1], row[2]);
+            let holders = holders(&rows, row[3]);
+            assert_eq!(source, planner::nearest(&holders, target), "{log:?}");
+            not_lowest += usize::from(Some(&source) != holders.first());
+            equally_near += usize::from(source < target && holders.contains(&(target + (target - source))));
+            other[1] = random.one_of(&holders.into_iter().collect::<Vec<_>>());
+        }
+        assert_eq!(C::check(&log.bytes(), &others), Ok(cost), "{log:?}");
+    }
+    assert!(not_lowest > times / 5 && equally_near > times / 50, "{not_lowest} {equally_near}");
+}
+
+/// Every set of servers 0 to 7 as the holders, and every other of these servers as the target: the set is asked for in turn, then the target, then
+/// the set again, soon enough that every copy is kept. Home is in the set.
+pub fn every_set_of_holders<C: Calls>() {
+    for set in 1..256u32 {
+        let members: BTreeSet<u32> = (0..8).filter(|&server| set >> server & 1 == 1).collect();
+        let header = Header { class: 5, server_count: 8, home: set.trailing_zeros() as u8, id: [0; 16] };
+        for target in (0..8).filter(|target| !members.contains(target)) {
+            let servers = members.iter().chain([&target]).chain(&members);
+            let requests = (1..).zip(servers).map(|(second, &server)| Request { second, server: server as u16 }).collect();
+            let log = Log { header, requests };
+            let (_, _, rows, _) = answers::<C>(&log);
+            let second = members.len() as u32 + 1;
+            assert_eq!(holders(&rows, second), members, "{log:?}");
+            let sent = rows.chunks(4).find(|row| row[0] == 1 && row[3] == second).unwrap();
+            assert_eq!(sent, [1, planner::nearest(&members, target), target, second], "{log:?}");
+        }
     }
 }
 

@@ -1,4 +1,4 @@
-//! 01's worked weeks, A to I. Week B is 002's running example times ten.
+//! 01's worked weeks, A to I, with the rows of 02's request 03. Week B is 002's running example times ten.
 
 use crate::calls::Calls;
 use crate::log::{Header, Log, Request};
@@ -37,7 +37,7 @@ const B: Week = Week {
     running: &[15, 31, 50, 62, 102, 114, 136],
     marks: None,
     online_marks: None,
-    rows: Some(&[[0, 0, 0, 14], [0, 1, 5, 40], [1, 0, 1, 5], [1, 0, 2, 8], [1, 0, 3, 11], [1, 1, 2, 40]]),
+    rows: Some(&[[0, 0, 0, 14], [0, 1, 5, 40], [1, 0, 1, 5], [1, 1, 2, 8], [1, 1, 3, 11], [1, 1, 2, 40]]),
     ..A
 };
 
@@ -48,7 +48,7 @@ const C: Week = Week {
     running: &[11, 23, 50, 62],
     marks: Some("SSKK"),
     online_marks: Some("SSKS"),
-    rows: Some(&[[0, 0, 0, 12], [0, 1, 1, 11], [1, 0, 1, 1], [1, 0, 2, 2]]),
+    rows: Some(&[[0, 0, 0, 12], [0, 1, 1, 11], [1, 0, 1, 1], [1, 1, 2, 2]]),
     ..A
 };
 

@@ -157,6 +157,14 @@ pub fn plan(file: &[u8], marks: &mut [u8], rows: &mut [u32]) -> Result<(u64, u32
     Ok((table.cost[points.server[n] as usize], count))
 }
 
+/// Of the servers in a word that is not 0 the nearest to a target below 64, the lower of two equally near.
+fn nearest(servers: u64, target: u32) -> u32 {
+    let (below, from) = (servers & !(u64::MAX << target), servers >> target);
+    let low = 63 - (below | 1).leading_zeros();
+    let ahead = from.trailing_zeros();
+    if below != 0 && target - low <= ahead { low } else { target + ahead }
+}
+
 /// Holds to where their server's begin, then transfers.
 fn put_rows(points: &Points, kept: &[bool; POINTS], holders: &[u64; POINTS], mut starts: [u32; 65], rows: &mut [u32]) {
     let n = points.count;
@@ -177,7 +185,8 @@ fn put_rows(points: &Points, kept: &[bool; POINTS], holders: &[u64; POINTS], mut
             ended &= ended - 1;
         }
         if !kept[i] {
-            let row = [1, holders[i].trailing_zeros(), points.server[i] as u32, points.second[i]];
+            let target = points.server[i] as u32;
+            let row = [1, nearest(holders[i], target), target, points.second[i]];
             rows[transfer..transfer + 4].copy_from_slice(&row);
             transfer += 4;
         }

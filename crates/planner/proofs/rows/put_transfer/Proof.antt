@@ -21,21 +21,21 @@ returns c =
     let a = c .before .before .before .before .before .before .before .args in
     let q = asks (a .times .now) (a .servers .now) in
     let m = marking (a .letters .now) in
-    let h = put-empty (a .at) (new-transfer q m (word-source (a .words .now)) (a .k)) (a .out .now)
-    (transfer-none q m (word-source (a .words .now)) (a .k) (sym (c .before .kept .ensures) ∙ c .if1 .taken)) in
+    let h = put-empty (a .at) (new-transfer q m (word-source q (a .words .now)) (a .k)) (a .out .now)
+    (transfer-none q m (word-source q (a .words .now)) (a .k) (sym (c .before .kept .ensures) ∙ c .if1 .taken)) in
     (h .0, search needs, h .1)
 
 add-i : tie.Need-add-i
 add-i c = search needs
 
+server-requires : tie.Need-server-requires
+server-requires c κs = search needs
+
 word-requires : tie.Need-word-requires
 word-requires c κs = search needs
 
-source-requires : tie.Need-source-requires
-source-requires c κs = search needs
-
-server-requires : tie.Need-server-requires
-server-requires c κs = search needs
+nearest-requires : tie.Need-nearest-requires
+nearest-requires c κs = search needs
 
 u32-from-u16-requires : tie.Need-u32-from-u16-requires
 u32-from-u16-requires c κs = search needs
@@ -60,11 +60,11 @@ returns-2 c =
     let a = b .before .before .before .before .before .before .before .args in
     let q = asks (a .times .now) (a .servers .now) in
     let m = marking (a .letters .now) in
-    let from = word-source (a .words .now) in
+    let from = word-source q (a .words .now) in
     let h = put-single (a .at) (new-transfer q m from (a .k)) (move (transfer (from (suc (a .k))) (q .server (suc (a .k))) (q .time (suc (a .k))))) (a .out .now) (p .put-row .last .0)
     (transfer-one q m from (a .k) (sym (b .before .kept .ensures) ∙ b .if1 .left))
     (p .put-row .ensures
-    ∙ rw (p .before .before .before .before .source .ensures, p .before .before .before .before .before .word .ensures, p .before .before .u32-from-u16 .ensures .0, p .before .before .before .server .ensures, p .before .second .ensures, add-one (a .k))) in
+    ∙ rw (p .before .before .before .nearest .ensures, p .before .before .before .before .word .ensures, p .before .before .u32-from-u16 .ensures .0, p .before .before .before .before .before .before .server .ensures, p .before .second .ensures, add-one (a .k))) in
     (h .0, search needs, h .1)
 
 pub put-transfer-spec : {M : Type 1} → statement M
@@ -74,9 +74,9 @@ put-transfer-spec =
     kept-requires
     returns
     add-i
-    word-requires
-    source-requires
     server-requires
+    word-requires
+    nearest-requires
     u32-from-u16-requires
     second-requires
     put-row-requires

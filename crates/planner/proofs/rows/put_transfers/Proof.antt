@@ -17,7 +17,7 @@ use Rattle.planner.proofs.rows.put_transfers.Tie as tie
 abbrev Inv-loop : tie.InvT-loop
 Inv-loop times servers words letters n at out₀ next₀ k₀ out next k =
     (k ≤ n) × (next ≤ at + k) × (length out ≡ length out₀)
-    × Put at (transfers (asks times servers) (marking letters) (word-source words) k) out₀ next out
+    × Put at (transfers (asks times servers) (marking letters) (word-source (asks times servers) words) k) out₀ next out
 
 abbrev μ-loop : tie.MeasureT-loop
 μ-loop times servers words letters n at out₀ next₀ k₀ out next k = n - k
@@ -45,7 +45,7 @@ loop-again c =
     let a = p .before .before .before .before .before .before .before .before .before .args in
     let q = asks (a .times .now) (a .servers .now) in
     let m = marking (a .letters .now) in
-    let from = word-source (a .words .now) in
+    let from = word-source q (a .words .now) in
     let after : List ℕ = p .put-transfer .last .1 .1 .1 .1 .1 .1 .0 in
     let h = put-next (a .at) (transfers q m from (l .k)) (new-transfer q m from (l .k)) (a .out .now) (l .next) (p .put-transfer .result) (l .out) after
     (l .inv .3) (p .put-transfer .ensures .0) (p .put-transfer .ensures .2) in
