@@ -81,7 +81,8 @@ struct caching_answer caching_write(struct caching_header header, const uint32_t
 /* rows_length counts numbers, four for each row; value: the cost of the rows */
 struct caching_answer caching_check(const uint8_t *log, size_t log_length, const uint32_t *rows, size_t rows_length);
 
-/* marks are the letters K and S; rows_length counts numbers, four for each row, and so does the place of 31 where rows are too short.
+/* marks are the letters K and S; a transfer leaves the server nearest its target of those that hold the file, the lower of two.
+ * rows_length counts numbers, four for each row, and so does the place of 31 where rows are too short.
  * value: the least cost; more: how many rows, not numbers */
 struct caching_answer caching_plan(const uint8_t *log, size_t log_length, uint8_t *marks, size_t marks_length,
                                    uint32_t *rows, size_t rows_length);

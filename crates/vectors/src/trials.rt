@@ -264,7 +264,7 @@ pub(crate) fn show() {
     };
     let mut x: u32 = 2026;
     let mut i: u32 = 0;
-    while i < 512 {
+    while i < 4096 {
         x = drawn(x);
         t = trial(t, x, byte(below(x, 8)), i);
         i += 1;

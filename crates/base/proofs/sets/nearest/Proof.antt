@@ -66,7 +66,7 @@ sub-result-2 c =
     omega (
       arith,
       l .before .u32-from-u16 .ensures .0,
-      below-nearest 64 (s .args .t) (63 - s .args .t) (s .args .w) (omega (arith, l .before .before .if2 .left)) (s .fits .w .fits) (rw (l .lowest .ensures) at (c .if3 .taken)),
+      below-nearest 64 (s .args .t) (63 - s .args .t) (s .args .w) (omega (arith, l .before .before .if2 .left)) (s .fits .w .fits) (omega (arith, l .lowest .ensures, c .if3 .taken)),
     )
 
 returns-3 : tie.Need-returns-3
@@ -76,7 +76,7 @@ returns-3 c =
     omega (
       arith,
       l .before .u32-from-u16 .ensures .0,
-      below-nearest 64 (s .args .t) (63 - s .args .t) (s .args .w) (omega (arith, l .before .before .if2 .left)) (s .fits .w .fits) (rw (l .lowest .ensures) at (c .if3 .taken)),
+      below-nearest 64 (s .args .t) (63 - s .args .t) (s .args .w) (omega (arith, l .before .before .if2 .left)) (s .fits .w .fits) (omega (arith, l .lowest .ensures, c .if3 .taken)),
     )
 
 add-result : tie.Need-add-result
@@ -90,7 +90,7 @@ returns-4 c =
     let s = l .before .before .before .before in
     rw (l .before .u32-from-u16 .ensures .0, l .lowest .ensures)
     (sym (from-nearest 64 (s .args .t) (63 - s .args .t) (s .args .w) (omega (arith, l .before .before .if2 .left)) (s .fits .w .fits)
-    (omega (arith, l .before .before .before .if1 .left)) (rw (l .lowest .ensures) at (c .if3 .left))))
+    (omega (arith, l .before .before .before .if1 .left)) (omega (arith, l .lowest .ensures, c .if3 .left))))
 
 pub nearest-spec : {M : Type 1} → statement M
 nearest-spec =

@@ -1,8 +1,10 @@
 -- `planner::rows::put_transfer` meets its contract: no row, or the transfer's. Assumes nothing.
 use borrow.Author.Needs.{needs}
-use mathlib.Core.Path.{sym, _∙_}
-use Prim.Native.Nat.{suc}
+use mathlib.Core.Path.{_≡_, sym, ap₂, _∙_}
+use Prim.Native.Nat.{ℕ, suc}
 use native.Mathlib.Numerals.{add-one}
+use Rattle.base.specs.Sets.{has}
+use Rattle.base.specs.Nearest.{nearest}
 use Rattle.model.specs.Schedule.{move, transfer}
 use Rattle.model.specs.RowForm.{numbers}
 use Rattle.planner.specs.HolderWords.{marking}
@@ -61,10 +63,14 @@ returns-2 c =
     let q = asks (a .times .now) (a .servers .now) in
     let m = marking (a .letters .now) in
     let from = word-source q (a .words .now) in
+    let target = p .before .before .before .before .before .before .server in
+    let near : p .before .before .before .nearest .result ≡ from (suc (a .k)) =
+    p .before .before .before .nearest .ensures
+    ∙ ap₂ (λ (w t : ℕ). nearest 64 (has w) t) (p .before .before .before .before .word .ensures) (target .ensures)
+    ∙ rw (add-one (a .k)) in
     let h = put-single (a .at) (new-transfer q m from (a .k)) (move (transfer (from (suc (a .k))) (q .server (suc (a .k))) (q .time (suc (a .k))))) (a .out .now) (p .put-row .last .0)
     (transfer-one q m from (a .k) (sym (b .before .kept .ensures) ∙ b .if1 .left))
-    (p .put-row .ensures
-    ∙ rw (p .before .before .before .nearest .ensures, p .before .before .before .before .word .ensures, p .before .before .u32-from-u16 .ensures .0, p .before .before .before .before .before .before .server .ensures, p .before .second .ensures, add-one (a .k))) in
+    (p .put-row .ensures ∙ rw (near, p .before .before .u32-from-u16 .ensures .0, target .ensures, p .before .second .ensures, add-one (a .k))) in
     (h .0, search needs, h .1)
 
 pub put-transfer-spec : {M : Type 1} → statement M

@@ -5,10 +5,10 @@ use Rattle.vectors.proofs.trials.show.Statement.{statement}
 use Rattle.vectors.proofs.trials.show.Tie as tie
 
 abbrev Inv-loop : tie.InvT-loop
-Inv-loop t₀ x₀ i₀ t x i = i ≤ 512
+Inv-loop t₀ x₀ i₀ t x i = i ≤ 4096
 
 abbrev μ-loop : tie.MeasureT-loop
-μ-loop t₀ x₀ i₀ t x i = 512 - i
+μ-loop t₀ x₀ i₀ t x i = 4096 - i
 
 loop-holds : tie.Need-loop-holds Inv-loop μ-loop
 loop-holds c = search needs
