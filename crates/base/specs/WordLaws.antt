@@ -2,8 +2,8 @@
 use mathlib.Core.Bool.{Bool, true, false}
 use mathlib.Core.Path.{_≡_, refl, sym, ap, _∙_}
 use mathlib.Core.Logic.{inl, inr}
-use Prim.Native.Nat.{ℕ, zero, suc, _+_, _-_, _*_, _/_, _%_, _^_, _≤_, _<_}
-use native.Mathlib.Nat.{one-mul, zero-mul, mul-comm, mul-le-mul-right, pow-suc, mod-lt, mod-eq-of-lt}
+use Prim.Native.Nat.{ℕ, zero, suc, _+_, _-_, _*_, _/_, _%_, _^_, _<_}
+use native.Mathlib.Nat.{one-mul, zero-mul, mul-le-mul-right, pow-suc, mod-lt, mod-eq-of-lt}
 use native.Mathlib.Omega.{arith}
 use lib.Bits.{bitOr, bitXor, bitAnd, and-high, or-add-and, xor-add-and}
 use lib.Count.{ones, onesIn, ones-step, trailingZeros, under, leadingZeros, leading-top, leading-unique}
