@@ -7,9 +7,9 @@ use Prim.Native.Nat.{ℕ, zero, suc, pred, _+_, _-_, _^_, _≤_, _<_}
 use lib.Dec.{ltb, eqb}
 use borrow.Author.Tests.{lt-ltb, ltb-true, eq-eqb, ne-eqb, eqb-true}
 use Rattle.base.specs.Choice.{pick, both, le-or-lt, same-or-not, true-or-false, not-both}
-use Rattle.base.specs.Sets.{has, put, cut, lowest}
-use Rattle.base.specs.SetLaws.{has-none, has-put, has-put-other, has-cut, has-cut-other, put-under, cut-le, same-members}
-use Rattle.base.specs.LowestLaws.{lowest-is}
+use Rattle.base.specs.Sets.{has, put, cut}
+use Rattle.base.specs.SetLaws.{has-none, has-put, has-put-other, has-cut, has-cut-other, put-under, cut-le}
+use Rattle.base.specs.WordLaws.{leading-highest}
 use Rattle.model.specs.Requests.{Requests, Within}
 use Rattle.model.specs.RequestLaws.{previous-some}
 use Rattle.model.specs.Marking.{Mark, K, S, keeps, spans, any, covered, holds, Valid}
@@ -32,10 +32,9 @@ joined-put w x h = rw (lt-ltb x 64 h)
 
 -- a word of 64 that is not empty has a member
 pub some-member : (w : ℕ) → w < 2 ^ 64 → w ≢ 0 → (y : ℕ) × (y < 64) × (has w y ≡ true)
-some-member w h d = elim (le-or-lt 64 (lowest 64 (has w))) [
-  | inl l ↦ absurd (d (same-members 64 w 0 h (omega arith) (λ k a. lowest-is 64 (has w) .none k (omega arith) ∙ sym (has-none k))))
-  | inr l ↦ (lowest 64 (has w), l, lowest-is 64 (has w) .met l)
-]
+some-member w h d =
+    let t = leading-highest 64 w (omega (arith, d)) h in
+    (t .0, t .2 .within, t .2 .met)
 
 -- one step back: the request's server is a member by its mark, and the others stay
 step-same : (w x : ℕ) (kept : Bool) → x < 64 → has (kept-step w x kept) x ≡ kept
