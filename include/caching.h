@@ -98,7 +98,7 @@ struct caching_scan_answer caching_scan(struct caching_cache cache, uint32_t sec
 /* value: the running cost, of a closed state too */
 struct caching_answer caching_running(struct caching_cache cache);
 
-/* value: the running cost */
+/* value: the closing cost, which is the running cost and the holding of each standing copy from the last scan's second to the end of its window */
 struct caching_cache_answer caching_close(struct caching_cache cache);
 
 #ifdef __cplusplus

@@ -1,4 +1,4 @@
--- One request keeps a state in agreement with the history: the same mark, the same last use at each server, the same seconds held.
+-- One request keeps a state in agreement with the history: the same mark, the same last use at each server, the same seconds held, and as much left.
 use mathlib.Core.Bool.{Bool, true, false}
 use mathlib.Core.Logic.{_⊎_, inl, inr, _≢_}
 use mathlib.Core.Option.{Option, none, some}
@@ -12,21 +12,17 @@ use Rattle.model.specs.Requests.{Requests}
 use Rattle.model.specs.Marking.{Mark, K, S, keeps}
 use Rattle.online.specs.declared.Cache.{Cache}
 use Rattle.online.specs.ServerLaws.{across-same, has-set}
-use Rattle.online.specs.Rules.{class-prices, window-of, copy-at, use-at, lasts, kept, uses, stands, next-use, seconds, accept}
+use Rattle.online.specs.Rules.{class-prices, window-of, copy-at, use-at, lasts, kept, uses, stands, next-use, seconds, accept, remaining}
+use Rattle.online.specs.Widths.{remaining-none, remaining-at}
 use Rattle.bounds.specs.History.{last-use, mark, held, transfers}
+use Rattle.bounds.specs.History as history
 use Rattle.bounds.specs.HistoryLaws.{Turn, target, source, other, turn, Marked, again, back, sent, marked, transfers-S, transfers-K}
-use Rattle.bounds.specs.Seconds.{left-of, left-some, spent, spent-last, spent-other, held-step}
+use Rattle.bounds.specs.Seconds.{left-some, left-far, spent, spent-last, spent-other, held-step}
 
 -- server y has bit h and last use w in a state after request i: no copy, and its use, if it had one, has expired; or a copy and that use
 pub data Seen (W : ℕ) (q : Requests) (h : Bool) (w i y : ℕ) : Type 0 where
   gone : h ≡ false → w ≡ 0 → ((u : ℕ) → last-use W q i y ≡ some u → u + W < q .time i) → Seen W q h w i y
   here : h ≡ true → last-use W q i y ≡ some w → q .time i ≤ w + W → w ≤ q .time i → Seen W q h w i y
-
--- an expired use holds nothing more
-left-far : (W : ℕ) (o : Option ℕ) (τ : ℕ) → ((u : ℕ) → o ≡ some u → u + W < τ) → left-of W o τ ≡ 0
-unfolding left-of
-left-far W none τ f = refl
-left-far W (some u) τ f = omega (arith, f u refl)
 
 module _ (W : ℕ) (q : Requests) (c : Cache) (i : ℕ) (w : window-of c ≡ W) (l : c .last ≡ q .server i) (s : c .second ≡ q .time i)
     (up : q .time i < q .time (suc i)) where
@@ -145,6 +141,16 @@ pub record Agrees (W : ℕ) (q : Requests) (c : Cache) (i : ℕ) : Type 0 where
   pub transfers-are : c .transfers ≡ transfers W q i
   pub held-are : c .held ≡ held W q 64 i
   pub seen : (y : ℕ) → y < 64 → Seen W q (copy-at c y) (use-at c y) i y
+
+-- then each server has as much left of its window
+pub remaining-left : (W : ℕ) (q : Requests) (c : Cache) (i : ℕ) → Agrees W q c i → (y : ℕ) → y < 64 → remaining c y ≡ history.remaining W q i y
+unfolding history.remaining
+remaining-left W q c i a y h = go (a .seen y h)
+  where
+    go : Seen W q (copy-at c y) (use-at c y) i y → remaining c y ≡ history.remaining W q i y
+    go (gone b z far) = omega (arith, remaining-none c y b, left-far W (last-use W q i y) (q .time i) far)
+    go (here b l d e) =
+        omega (arith, remaining-at c y b, a .window-is, a .second-is, left-some W (last-use W q i y) (use-at c y) (q .time i) l)
 
 -- the next state agrees with one request more
 pub agrees-next : (W : ℕ) (q : Requests) (c : Cache) (i : ℕ) → Agrees W q c i → q .time i < q .time (suc i) → q .server (suc i) < 64

@@ -1,5 +1,6 @@
 -- A list of calls, as 01's 'What demand 3 compares' has it: each call gets the state last given back. Assumes nothing.
-use mathlib.Core.List.{List, [], _∷_, map}
+use mathlib.Core.List.{List, [], _∷_, _++_, map}
+use mathlib.Core.Path.{_≡_}
 use Prim.Native.Nat.{ℕ}
 use Rattle.base.specs.declared.Verdict.{Verdict}
 use Rattle.base.specs.declared.Verdict.the-variants.{Passed, Refused}
@@ -31,6 +32,13 @@ run c (a ∷ calls) = run (after c a) calls
 unfoldable pub verdicts : Cache → List Call → List Verdict
 verdicts c [] = []
 verdicts c (a ∷ calls) = verdict c a ∷ verdicts (after c a) calls
+
+-- a close in a list that is not refused: the calls before it and after it
+pub record Taken-close (c : Cache) (calls : List Call) : Type 0 where
+  pub before : List Call
+  pub later : List Call
+  pub among : calls ≡ before ++ (close ∷ later)
+  pub passed : verdict (run c before) close ≡ Passed
 
 -- a request (01: scan): its second and its server
 pub record Request : Type 0 where

@@ -1,9 +1,9 @@
--- What is claimed of a list of scan and close calls: the second half of demand 3. Assumes nothing.
+-- What is claimed of a list of scan and close calls: the second half of demand 3, with 02's closing cost. Assumes nothing.
 use mathlib.Core.Bool.{false}
 use mathlib.Core.List.{List, List·Memᴰ}
 use mathlib.Core.Logic.{_≢_}
 use mathlib.Core.Path.{_≡_}
-use Prim.Native.Nat.{ℕ, _*_, _≤_}
+use Prim.Native.Nat.{ℕ, _+_, _*_, _≤_, _<_}
 use lib.ListN.{length}
 use Rattle.base.specs.declared.Refusal.{Refusal}
 use Rattle.base.specs.declared.Verdict.the-variants.{Refused}
@@ -14,11 +14,12 @@ use Rattle.model.specs.Requests.{Requests, Rising, Within}
 use Rattle.model.specs.Plan.{plan-cost}
 use Rattle.model.specs.Least.{Least}
 use Rattle.online.specs.declared.Cache.{Cache}
-use Rattle.online.specs.Rules.{running}
+use Rattle.online.specs.Rules.{running, remaining, closing}
 use Rattle.online.specs.Conditions.{broken}
 use Rattle.bounds.specs.Calls.{Call, run, verdicts, requests-of}
 use Rattle.bounds.specs.Progress.{begun, dues, taken, progress}
 use Rattle.bounds.specs.History.{held, transfers}
+use Rattle.bounds.specs.History as history
 
 -- what a start was given, the state that it gave back, and a list of calls after it
 module _ (s : Setup) (first : Cache) (calls : List Call) where
@@ -39,7 +40,7 @@ module _ (s : Setup) (first : Cache) (calls : List Call) where
 
   -- The claim. Each call is refused as the calls up to it say, with 32 never, nor would one more call be. The requests taken are at servers below the
   -- count and at rising seconds, and the state says what the rules give for them. The running cost is at least the least cost of the requests taken,
-  -- and at most three times that.
+  -- and at most three times that; the closing cost is at least the running cost, and at most three times the least and one transfer price.
   pub record Claim : Type 0 where
     pub refused : verdicts first calls ≡ dues (s .«server_count») begun calls
     pub never-32 : (x : Refusal) → List·Memᴰ (Refused x) (verdicts first calls) → x .number ≢ 32
@@ -54,8 +55,11 @@ module _ (s : Setup) (first : Cache) (calls : List Call) where
     pub requests-are : final .requests ≡ served-count
     pub held-are : final .held ≡ held (window prices) served 64 served-count
     pub transfers-are : final .transfers ≡ transfers (window prices) served served-count
+    pub remaining-are : (y : ℕ) → y < 64 → remaining final y ≡ history.remaining (window prices) served served-count y
     pub least : ℕ
     pub is-least : Least prices (s .«server_count») served served-count least
     pub is-planned : least ≡ plan-cost prices served served-count
     pub no-less : least ≤ running final
     pub no-more : running final ≤ 3 * least
+    pub closing-no-less : running final ≤ closing final
+    pub closing-no-more : closing final ≤ 3 * least + prices .transfer

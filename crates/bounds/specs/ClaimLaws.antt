@@ -1,8 +1,8 @@
 -- The claim holds of every list of scan and close calls from a fresh state.
-use mathlib.Core.List.{List}
-use mathlib.Core.Path.{_≡_, refl, ap, _∙_}
+use mathlib.Core.List.{List, []}
+use mathlib.Core.Path.{_≡_, refl, ap, ap₂, _∙_}
 use native.Mathlib.Omega.{arith}
-use Prim.Native.Nat.{ℕ, _+_, _*_}
+use Prim.Native.Nat.{ℕ, _+_, _*_, _≤_}
 use Rattle.prices.specs.declared.Prices.{Prices}
 use Rattle.prices.specs.Prices.{prices-of, window}
 use Rattle.prices.specs.PriceLaws.{class-in-range}
@@ -13,13 +13,18 @@ use Rattle.model.specs.Plan.{plan-cost}
 use Rattle.model.specs.PlanLaws.{plan-best}
 use Rattle.model.specs.PlanLeast.{plan-least}
 use Rattle.online.specs.declared.Cache.{Cache}
-use Rattle.online.specs.Rules.{class-prices, fresh, running}
+use Rattle.online.specs.Servers.{across}
+use Rattle.online.specs.ServerLaws.{across-same}
+use Rattle.online.specs.Rules.{class-prices, fresh, running, remaining, closing}
+use Rattle.online.specs.Widths.{closing-more}
 use Rattle.online.specs.Intact.{intact-unbroken}
 use Rattle.bounds.specs.Calls.{Call, run, requests-of}
 use Rattle.bounds.specs.Progress.{begun, taken, progress}
 use Rattle.bounds.specs.ProgressLaws as progress-laws
-use Rattle.bounds.specs.History.{held, running-cost}
-use Rattle.bounds.specs.WithinThree.{within-three}
+use Rattle.bounds.specs.History.{held, running-cost, closing-cost}
+use Rattle.bounds.specs.History as history
+use Rattle.bounds.specs.WithinThree.{within-three, closing-within, closing-zero}
+use Rattle.bounds.specs.Agreement.{remaining-left}
 use Rattle.bounds.specs.NotBelow.{not-below}
 use Rattle.bounds.specs.Follows.{follows-of}
 use Rattle.bounds.specs.Reached.{reached-fresh, reached-intact}
@@ -60,10 +65,23 @@ module _ (s : Setup) (k : Allowed s) (calls : List Call) where
       ∙ ap (λ (x : ℕ). p .hold * x + p .transfer * c .transfers) (r .agrees .held-are)
       ∙ ap (λ (x : ℕ). p .hold * held (window p) q 64 n + p .transfer * x) (r .agrees .transfers-are)
 
+  -- holding has a price
+  holding : 1 ≤ p .hold
+  holding = class-in-range (s .«class») (omega (arith, k .class-most)) .hold-least
+
   -- all servers are below 64
   within-64 : Within 64 q n
   unfolding Within
   within-64 i h = omega (arith, end .reached .within i h, k .servers-most)
+
+  -- so is the closing cost
+  closing-is : closing c ≡ closing-cost p q 64 n
+  unfolding closing class-prices closing-cost
+  closing-is =
+      let r = end .reached in
+      ap₂ (λ (x y : ℕ). x + y) running-is
+      (ap (λ (x : ℕ). prices-of x .hold * across 64 (remaining c)) (r .class-is)
+      ∙ ap (λ (x : ℕ). p .hold * x) (across-same 64 (remaining c) (history.remaining (window p) q n) (remaining-left (window p) q c n (r .agrees))))
 
   -- every list of calls from a fresh state is as claimed
   pub claim : Claim s (fresh s) calls
@@ -83,6 +101,7 @@ module _ (s : Setup) (k : Allowed s) (calls : List Call) where
         requests-are = r .agrees .requests-are;
         held-are = r .agrees .held-are;
         transfers-are = r .agrees .transfers-are;
+        remaining-are = remaining-left (window p) q c n (r .agrees);
         least = plan-cost p q n;
         is-least = plan-least p (s .«server_count») q n (r .rising) (r .within);
         is-planned = refl;
@@ -92,6 +111,21 @@ module _ (s : Setup) (k : Allowed s) (calls : List Call) where
               arith,
               running-is,
               plan-best p q n,
-              within-three p q 64 n (class-in-range (s .«class») (omega (arith, k .class-most)) .hold-least) (r .rising) within-64,
+              within-three p q 64 n holding (r .rising) within-64,
+            );
+        closing-no-less = closing-more c;
+        closing-no-more =
+            omega (
+              arith,
+              closing-is,
+              plan-best p q n,
+              closing-within p q 64 n holding (r .rising) within-64,
             );
       }
+
+-- the closing cost of a fresh state is the holding of one window
+pub closing-fresh : (s : Setup) → Allowed s → closing (fresh s) ≡ prices-of (s .«class») .hold * window (prices-of (s .«class»))
+unfolding run taken requests-of requests
+closing-fresh s k =
+    closing-is s k []
+    ∙ closing-zero (prices-of (s .«class»)) (requests-of (s .home) []) 64 refl (omega (arith, k .home-below, k .servers-most))

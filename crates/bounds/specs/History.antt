@@ -1,8 +1,8 @@
 -- What the rules of 01's 'The live keeper' give for a list of requests, from the requests alone: each request's mark, the last uses, the
--- servers that hold over each second, the seconds held and the transfers. W is the window. Assumes nothing.
+-- servers that hold over each second, the seconds held, the transfers, and what is left of each window. W is the window. Assumes nothing.
 use mathlib.Core.Bool.{Bool, false}
 use mathlib.Core.Option.{Option, none, some}
-use Prim.Native.Nat.{ℕ, zero, suc, pred, _+_, _*_}
+use Prim.Native.Nat.{ℕ, zero, suc, pred, _+_, _-_, _*_}
 use lib.Dec.{leb, ltb, eqb}
 use Rattle.base.specs.Choice.{pick, either}
 use Rattle.prices.specs.declared.Prices.{Prices}
@@ -22,6 +22,11 @@ module _ (W : ℕ) where
   unfoldable pub recent : Option ℕ → ℕ → Bool
   recent none τ = false
   recent (some u) τ = leb τ (u + W)
+
+  -- the seconds that a use still holds after second τ
+  unfoldable pub left-of : Option ℕ → ℕ → ℕ
+  left-of none τ = 0
+  left-of (some u) τ = u + W - τ
 
   module _ (q : Requests) where
     -- request i + 1 is K, where f gives each server's last use before it: at the server of request i, or where the use is recent
@@ -58,6 +63,14 @@ module _ (W : ℕ) where
     unfoldable pub transfers : ℕ → ℕ
     transfers n = sent mark n
 
+    -- what is left of the window of server y's last use when request n has been served
+    unfoldable pub remaining : ℕ → ℕ → ℕ
+    remaining n y = left-of (last-use n y) (q .time n)
+
 -- the running cost of the first n requests at prices p
 unfoldable pub running-cost : Prices → Requests → ℕ → ℕ → ℕ
 running-cost p q count n = p .hold * held (window p) q count n + p .transfer * transfers (window p) q n
+
+-- their closing cost: each copy is held to its end
+unfoldable pub closing-cost : Prices → Requests → ℕ → ℕ → ℕ
+closing-cost p q count n = running-cost p q count n + p .hold * across count (remaining (window p) q n)

@@ -6,6 +6,7 @@ pub mod History
 pub mod Claim
 -- ---- laws
 pub mod CallLaws
+pub mod CloseLaws
 pub mod ProgressLaws
 pub mod HistoryLaws
 pub mod Seconds

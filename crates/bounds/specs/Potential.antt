@@ -12,9 +12,9 @@ use Rattle.model.specs.Requests.{Requests}
 use Rattle.model.specs.Marking.{K, S}
 use Rattle.online.specs.Servers.{across}
 use Rattle.online.specs.ServerLaws.{across-le, across-same, across-add, across-const, at, at-same, at-other, across-at}
-use Rattle.bounds.specs.History.{last-use, mark}
+use Rattle.bounds.specs.History.{left-of, last-use, mark, remaining}
 use Rattle.bounds.specs.HistoryLaws.{kept-sent, Turn, target, source, other, turn, use-last, use-none}
-use Rattle.bounds.specs.Seconds.{left-of, left-none, left-some, spent, spent-last, spent-other}
+use Rattle.bounds.specs.Seconds.{left-none, left-some, spent, spent-last, spent-other}
 
 -- time passing turns what is left into what is spent
 pass : (W : ℕ) (o : Option ℕ) (a b : ℕ) → a ≤ b → min (b - a) (left-of W o a) + left-of W o b ≡ left-of W o a
@@ -155,3 +155,24 @@ module _ (W : ℕ) (q : Requests) where
       go : (y : ℕ) → (y ≡ q .server 0) ⊎ (y ≢ q .server 0) → left 0 y ≡ 0
       go y (inl e) = left-last 0 y e
       go y (inr e) = left-other 0 y e ∙ left-none W (last-use W q 0 y) (q .time 0) (use-none W q y e)
+
+  -- what is left of all windows is that, and a whole one at the server of request i
+  pub remaining-lefts : (count i : ℕ) → q .server i < count → across count (remaining W q i) ≡ across count (left i) + W
+  unfolding remaining
+  remaining-lefts count i h =
+      omega (
+        arith,
+        across-same count (remaining W q i) (λ y. left i y + at (q .server i) W y) (λ y l. go y (same-or-not y (q .server i))),
+        across-add count (left i) (at (q .server i) W),
+        across-at count (q .server i) W h,
+      )
+    where
+      go : (y : ℕ) → (y ≡ q .server i) ⊎ (y ≢ q .server i) → remaining W q i y ≡ left i y + at (q .server i) W y
+      go y (inl e) =
+          omega (
+            arith,
+            left-last i y e,
+            at-same (q .server i) W y e,
+            left-some W (last-use W q i y) (q .time i) (q .time i) (ap (last-use W q i) e ∙ use-last W q i),
+          )
+      go y (inr e) = omega (arith, left-other i y e, at-other (q .server i) W y e)

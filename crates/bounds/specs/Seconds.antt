@@ -14,12 +14,7 @@ use Rattle.model.specs.Requests.{Requests, Rising}
 use Rattle.model.specs.RequestLaws.{rises-le}
 use Rattle.online.specs.Servers.{across}
 use Rattle.online.specs.ServerLaws.{across-le, across-same, across-add, across-const, across-swap}
-use Rattle.bounds.specs.History.{recent, last-use, holds, before, over, held}
-
--- the seconds that a use still holds after second τ
-unfoldable pub left-of : ℕ → Option ℕ → ℕ → ℕ
-left-of W none τ = 0
-left-of W (some u) τ = u + W - τ
+use Rattle.bounds.specs.History.{recent, left-of, last-use, holds, before, over, held}
 
 -- no use holds nothing
 pub left-none : (W : ℕ) (o : Option ℕ) (τ : ℕ) → o ≡ none → left-of W o τ ≡ 0
@@ -30,6 +25,12 @@ left-none W o τ e = rw e
 pub left-some : (W : ℕ) (o : Option ℕ) (u τ : ℕ) → o ≡ some u → left-of W o τ ≡ u + W - τ
 unfolding left-of
 left-some W o u τ e = rw e
+
+-- an expired one holds nothing more
+pub left-far : (W : ℕ) (o : Option ℕ) (τ : ℕ) → ((u : ℕ) → o ≡ some u → u + W < τ) → left-of W o τ ≡ 0
+unfolding left-of
+left-far W none τ f = refl
+left-far W (some u) τ f = omega (arith, f u refl)
 
 -- one request more does not change the last one before a second that is not after it
 pub before-old : (q : Requests) (n τ : ℕ) → τ ≤ q .time n → before q (suc n) τ ≡ before q n τ

@@ -1,4 +1,5 @@
--- The running cost, with what is still to be held, is at most three times the least: for all prices of at least 1.
+-- The running cost, with what is still to be held, is at most three times the least, and the closing cost at most a transfer more: for all prices of at
+-- least 1.
 use mathlib.Core.Option.{some}
 use mathlib.Core.Path.{_≡_, ap}
 use native.Mathlib.Nat.{mul-le-mul-left, mul-sub}
@@ -13,10 +14,10 @@ use Rattle.model.specs.RequestLaws.{none-some, rises-le}
 use Rattle.model.specs.Table.{best}
 use Rattle.model.specs.Bounds.{least-own, best-bounded}
 use Rattle.online.specs.Servers.{across}
-use Rattle.bounds.specs.History.{last-use, held, transfers, running-cost}
+use Rattle.bounds.specs.History.{last-use, held, transfers, remaining, running-cost, closing-cost}
 use Rattle.bounds.specs.HistoryLaws.{Marked, again, back, sent, marked, Link, never, since, link, transfers-S, transfers-K, transfers-most}
 use Rattle.bounds.specs.Seconds.{held-zero, held-step}
-use Rattle.bounds.specs.Potential.{left, Moves, moves-again, moves-back, moves-sent, moves-all, left-zero}
+use Rattle.bounds.specs.Potential.{left, Moves, moves-again, moves-back, moves-sent, moves-all, left-zero, remaining-lefts}
 
 -- what the servers below the count still have to hold after request n, but for the last one: each up to its last use plus the window
 unfoldable pub lefts : Prices → Requests → ℕ → ℕ → ℕ
@@ -136,3 +137,31 @@ module _ (p : Prices) (q : Requests) (count n : ℕ) (holding : 1 ≤ p .hold) (
   -- so is the running cost
   pub within-three : running-cost p q count n ≤ 3 * best p q n n
   within-three = omega (arith, within-three-left)
+
+  -- the closing cost has the last server's window besides, which costs at most a transfer
+  pub closing-within : closing-cost p q count n ≤ 3 * best p q n n + p .transfer
+  unfolding closing-cost lefts Within
+  closing-within =
+      omega (
+        arith,
+        within-three-left,
+        ap (λ (x : ℕ). p .hold * x) (remaining-lefts W q count n (within n (omega arith))),
+        window-low p,
+      )
+
+-- before any request the closing cost is the holding of one window
+pub closing-zero : (p : Prices) (q : Requests) (count : ℕ) → q .time 0 ≡ 0 → q .server 0 < count → closing-cost p q count 0 ≡ p .hold * window p
+unfolding closing-cost running-cost
+closing-zero p q count z h =
+    omega (
+      arith,
+      ap (λ (x : ℕ). p .transfer * x) none,
+      ap (λ (x : ℕ). p .hold * x) (held-zero (window p) q count z),
+      ap (λ (x : ℕ). p .hold * x) whole,
+    )
+  where
+    none : transfers (window p) q 0 ≡ 0
+    none = omega (arith, transfers-most (window p) q 0)
+
+    whole : across count (remaining (window p) q 0) ≡ window p
+    whole = omega (arith, remaining-lefts (window p) q count 0 h, left-zero (window p) q count)

@@ -100,7 +100,7 @@ abbrev pub of-running : RunningCost → Answer
 of-running (running.Cost cost) = accepted cost 0
 of-running (running.Refused r) = refused r
 
--- the cost at the close, or the refusal
+-- the closing cost, or the refusal
 abbrev pub of-close : CloseOutcome → Answer
 of-close (close.Cost cost) = accepted cost 0
 of-close (close.Refused r) = refused r

@@ -115,7 +115,7 @@ fn of_close(outcome: CloseOutcome) -> Answer
     }
 }
 
-// The answer's value is the running cost.
+// The answer's value is the closing cost.
 #[no_mangle]
 pub extern "C" fn caching_close(cache: Cache) -> CacheAnswer
     ensures { λ r. ⌜ r ≡ close-answer (closed-answer cache) ⌝ }

@@ -9,4 +9,5 @@ pub mod LogCalls
 pub mod CheckerAccepts
 pub mod Sources
 pub mod Demand3
+pub mod Closes
 pub mod SheetColumns

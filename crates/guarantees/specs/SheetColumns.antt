@@ -1,12 +1,14 @@
 -- The columns of the sheet, at each request. The least cost is what the planner answers for the log cut there (01's 'What demand 3 compares'). The live
 -- mark and the running cost are what the online cache answers when it is handed the requests up to there, and the cost is within three times the least.
+-- The closing cost of the last line is what it answers when it is closed after all of them.
 use mathlib.Core.List.{List}
 use mathlib.Core.Path.{_≡_, refl, sym, ap, _∙_}
-use Prim.Native.Nat.{ℕ, zero, suc, _-_, _*_, _≤_, _<_}
+use Prim.Native.Nat.{ℕ, zero, suc, _+_, _-_, _*_, _≤_, _<_}
 use native.Mathlib.Omega.{arith}
 use lib.ListN.{length, getD, replicate}
 use Rattle.base.specs.Lists.{build, build-length, build-at}
 use Rattle.base.specs.declared.Verdict.the-variants.{Passed}
+use Rattle.prices.specs.Prices.{window}
 use Rattle.log.specs.Fields.{setup-of, server-count, home-of, request-count, seconds-of, servers-of, header-of}
 use Rattle.log.specs.Conditions.{Accepted}
 use Rattle.log.specs.Contents.{Contents, decode, first-requests, cut}
@@ -19,20 +21,22 @@ use Rattle.model.specs.Plan.{plan-cost}
 use Rattle.planner.specs.declared.Planned.the-variants as planned′
 use Rattle.planner.specs.Answers.{planned-rows, rows-of-plan, plan-verdict, planned, least-costs}
 use Rattle.online.specs.declared.Scanned.{Scanned}
+use Rattle.online.specs.declared.CloseOutcome.the-variants as close′
 use Rattle.online.specs.Rules.{running}
-use Rattle.online.specs.Answers.{start-verdict, scanned}
+use Rattle.online.specs.Answers.{start-verdict, close-verdict, scanned, closed-answer}
 use Rattle.bounds.specs.Calls.{Call, run, verdicts, requests-of}
 use Rattle.bounds.specs.Progress.{begun, taken}
 use Rattle.bounds.specs.Claim.{Claim, served, served-count}
 use Rattle.report.specs.declared.Entry.{Entry}
 use Rattle.report.specs.declared.live.Turn.{Turn}
-use Rattle.report.specs.Live.{scans, state-after, live-mark, live-cost, opened, live-marks, running-costs}
-use Rattle.report.specs.LiveLaws.{Runs, starts, goes-on, turn-next}
+use Rattle.report.specs.Live.{scans, state-after, live-mark, live-cost, opened, live-marks, running-costs, closing-cost}
+use Rattle.report.specs.LiveLaws.{Runs, starts, goes-on, closes, turn-next}
 use Rattle.report.specs.LiveCalls.{scans-passed, request, scans-taken, requests-taken}
 use Rattle.report.specs.Replies.{outcome-letter, outcome-cost, turn}
 use Rattle.report.specs.Sheet.{columns-of}
 use Rattle.report.specs.Text.{entry-of}
 use Rattle.guarantees.specs.Demand3.{planned-best, online-within-three}
+use Rattle.guarantees.specs.Closes.{close-within, close-at-once}
 
 -- what line k of a log's sheet says, from 1
 abbrev pub line-of : List ℕ → ℕ → Entry
@@ -110,10 +114,10 @@ module _ (log : List ℕ) (k : ℕ) (a : Accepted log) (h : k ≤ request-count 
   count-is : served-count (setup-of log) (opened log) (calls-of log k) ≡ k
   count-is = ap length list-of ∙ build-length k (request (seconds-of log) (servers-of log))
 
-  -- the claim's least cost is that of the cut log's plan
-  least-of : claim-of .least ≡ plan-cost (prices-in (cut k log)) (requests-in (cut k log)) k
+  -- a claim's least cost is that of the cut log's plan
+  least-of : (x : Claim (setup-of log) (opened log) (calls-of log k)) → x .least ≡ plan-cost (prices-in (cut k log)) (requests-in (cut k log)) k
   unfolding prices-in
-  least-of = claim-of .is-planned ∙ rw (served-is, count-is, cut-prices log k a h)
+  least-of x = x .is-planned ∙ rw (served-is, count-is, cut-prices log k a h)
 
 module _ (log : List ℕ) (i : ℕ) (a : Accepted log) (h : i < request-count log) where
   -- the line of request i, from 0
@@ -138,7 +142,7 @@ live-columns log (suc i) a least most =
     build-at (request-count log) (live-cost (opened log) (seconds-of log) (servers-of log)) i 0 most in
     let t = turn-is log i a most in
     let claim = claim-of log (suc i) a most in
-    let column : claim .least ≡ line-of log (suc i) .least = least-of log (suc i) a most ∙ sym (least-column log (suc i) a least most .least-is) in
+    let column : claim .least ≡ line-of log (suc i) .least = least-of log (suc i) a most claim ∙ sym (least-column log (suc i) a least most .least-is) in
     let paid : line-of log (suc i) .cost ≡ running (run (opened log) (calls-of log (suc i))) = rw e cost in
     record {
       ready = starts log a;
@@ -151,4 +155,37 @@ live-columns log (suc i) a least most =
       all-taken = count-is log (suc i) a most;
       no-less = omega (arith, claim .no-less, column, paid);
       no-more = omega (arith, claim .no-more, column, paid);
+    }
+
+-- ---- the last line
+
+-- all requests of a log, as calls
+abbrev pub all-calls : List ℕ → List Call
+all-calls log = calls-of log (request-count log)
+
+pub record Close-line (log : List ℕ) : Type 0 where
+  -- the close after all calls is not refused, and answers the closing cost that the line has
+  pub passes : close-verdict (run (opened log) (all-calls log)) ≡ Passed
+  pub answers : closed-answer (run (opened log) (all-calls log)) .outcome ≡ close′.Cost (closing-cost log)
+  -- it is at least the running cost, and at most three times the least cost of all requests and one transfer price
+  pub no-less : running (run (opened log) (all-calls log)) ≤ closing-cost log
+  pub no-more : closing-cost log ≤ 3 * getD (least-costs log) (request-count log) 0 + prices-in log .transfer
+  -- a log without requests has the holding of one window
+  pub empty : request-count log ≡ 0 → closing-cost log ≡ prices-in log .hold * window (prices-in log)
+
+-- THE SHEET'S LAST LINE
+pub close-line : (log : List ℕ) → Accepted log → Close-line log
+unfolding closing-cost state-after scans build run opened prices-in
+close-line log a =
+    let n = request-count log in
+    let passes : close-verdict (run (opened log) (all-calls log)) ≡ Passed = closes log a in
+    let w = close-within (setup-of log) (starts log a) (all-calls log) passes in
+    let least : w .claimed .least ≡ getD (least-costs log) n 0 =
+    least-of log n a (omega arith) (w .claimed) ∙ sym (planned-best log n a (omega arith) .least-is) in
+    record {
+      passes = passes;
+      answers = w .answers;
+      no-less = w .no-less;
+      no-more = omega (arith, w .no-more, least);
+      empty = λ e. rw e (close-at-once (setup-of log) (starts log a));
     }

@@ -1,4 +1,4 @@
--- A worked week of 01: what is handed in, what 01 says of it, and the test that the definitions say the same. Assumes nothing.
+-- A worked week of 01: what is handed in, what 01 and 02 say of it, and the test that the definitions say the same. Assumes nothing.
 use mathlib.Core.Bool.{Bool, true, false}
 use mathlib.Core.List.{List, [], _∷_}
 use Prim.Native.Nat.{ℕ, suc}
@@ -26,8 +26,9 @@ use Rattle.online.specs.declared.Cache.{Cache}
 use Rattle.online.specs.declared.ScanOutcome.{ScanOutcome}
 use Rattle.online.specs.declared.ScanOutcome.the-variants as scan
 use Rattle.online.specs.Rules.{running}
-use Rattle.online.specs.Answers.{started, scanned}
+use Rattle.online.specs.Answers.{started, scanned, closed-answer}
 use Rattle.text.specs.Lines.{ascii}
+use Rattle.report.specs.Replies.{close-cost}
 use Rattle.report.specs.Output.{output}
 
 -- the requests of a week: what its start is given, seconds and servers
@@ -36,13 +37,14 @@ pub record Given : Type 0 where
   pub seconds : List ℕ
   pub servers : List ℕ
 
--- a planned week: least and running cost before any request and after each, the plan's and the online cache's marks, the plan's rows as numbers
+-- a planned week: least and running cost before any request and after each, the closing cost after all, the plan's and the online cache's marks, the
+-- plan's rows as numbers
 -- a tied week: how many legal markings have a cost
 -- a checked list of rows: number and place of a refusal and 0, or 0, 0 and the cost
 -- a log: the verdict's number and place
 -- a printed week: what the program writes for its log
 pub data Week : Type 0 where
-  planned : Given → (least running marks live rows : List ℕ) → Week
+  planned : Given → (least running : List ℕ) → (closing : ℕ) → (marks live rows : List ℕ) → Week
   checked : Given → (rows : List ℕ) → (number place cost : ℕ) → Week
   logged : Given → (number place : ℕ) → Week
   tied : Given → (cost count : ℕ) → Week
@@ -89,11 +91,16 @@ plan-letters g =
 unfoldable pub plan-numbers : Given → List ℕ
 plan-numbers g = flat (plan-rows (prices-of (g .setup .«class»)) (requests-given g) (g .setup .«server_count») (length (g .seconds)))
 
--- the running cost of a state and after each request served from it; the mark of each request
+-- the running cost of a state and after each request served from it; the closing cost in the end; the mark of each request
 unfoldable pub costs-from : Cache → List ℕ → List ℕ → List ℕ
 costs-from c (t ∷ ts) (x ∷ xs) = running c ∷ costs-from (scanned c t x .cache) ts xs
 costs-from c [] xs = running c ∷ []
 costs-from c (t ∷ ts) [] = running c ∷ []
+
+unfoldable pub close-after : Cache → List ℕ → List ℕ → ℕ
+close-after c (t ∷ ts) (x ∷ xs) = close-after (scanned c t x .cache) ts xs
+close-after c [] xs = close-cost (closed-answer c .outcome)
+close-after c (t ∷ ts) [] = close-cost (closed-answer c .outcome)
 
 unfoldable pub letters-from : Cache → List ℕ → List ℕ → List ℕ
 letters-from c (t ∷ ts) (x ∷ xs) = let a = scanned c t x in live-letter (a .outcome) ∷ letters-from (a .cache) ts xs
@@ -108,12 +115,13 @@ log-of g =
 
 -- what the definitions say of a week is what 01 says
 unfoldable pub right : Week → Bool
-right (planned g least costs marks live rows) =
+right (planned g least costs closing marks live rows) =
     both (same (least-so-far g) least)
     (both (same (costs-from (started (g .setup) .cache) (g .seconds) (g .servers)) costs)
+    (both (eqb (close-after (started (g .setup) .cache) (g .seconds) (g .servers)) closing)
     (both (same (plan-letters g) marks)
     (both (same (letters-from (started (g .setup) .cache) (g .seconds) (g .servers)) live)
-    (same (plan-numbers g) rows))))
+    (same (plan-numbers g) rows)))))
 right (checked g rows number place c) = same (answer-numbers (check-answer (log-of g) rows)) (number ∷ place ∷ c ∷ [])
 right (logged g number place) = same (as-numbers (verdict-of (log-of g))) (number ∷ place ∷ [])
 right (tied g c n) =

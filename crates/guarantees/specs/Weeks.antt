@@ -1,4 +1,4 @@
--- 01's worked weeks A to I: one table, and one proof of all of it by computing the definitions.
+-- 01's worked weeks A to I, with 02's closing costs: one table, and one proof of all of it by computing the definitions.
 use mathlib.Core.Bool.{true}
 use mathlib.Core.List.{List, [], _∷_, _++_}
 use mathlib.Core.Path.{_≡_, refl}
@@ -24,18 +24,19 @@ use Rattle.model.specs.LogRequests.{requests-in, prices-in}
 use Rattle.checker.specs.Answers.{check-conditions, check-verdict-of, checked as checked-by, check-answer}
 use Rattle.planner.specs.Answers.{letter, marks-of, planned-rows, least-costs}
 use Rattle.online.specs.Servers.{across, set-of, some-server}
-use Rattle.online.specs.Rules.{class-prices, window-of, copy-at, use-at, fresh, lasts, kept, uses, stands as stands-after, next-use, seconds, accept, running}
-use Rattle.online.specs.Conditions.{any-of, server-broken, broken, scan-conditions}
-use Rattle.online.specs.Answers.{start-verdict, started-by, started, scan-verdict, scanned-by, scanned, mark-outcome}
+use Rattle.online.specs.Rules.{class-prices, window-of, copy-at, use-at, fresh, lasts, kept, uses, stands as stands-after, next-use, seconds, accept, running, remaining, closing}
+use Rattle.online.specs.Conditions.{any-of, server-broken, broken, scan-conditions, close-conditions}
+use Rattle.online.specs.Answers.{start-verdict, started-by, started, scan-verdict, scanned-by, scanned, mark-outcome, close-verdict, closed-by, closed-answer}
 use Rattle.bounds.specs.Calls.{after as after-call, run}
 use Rattle.text.specs.Decimal.{digits, decimal}
 use Rattle.text.specs.Lines.{ascii, line-end, line}
 use Rattle.text.specs.RefusalText.{list-word, refusal-text}
-use Rattle.report.specs.Text.{heading, entry-line, entry-lines, last-line, sheet-text, entry-of}
-use Rattle.report.specs.Live.{scans, state-after, live-mark, live-cost, opened, live-marks, running-costs}
+use Rattle.report.specs.Text.{heading, entry-line, entry-lines, figure-line, sheet-text, entry-of}
+use Rattle.report.specs.Live.{scans, state-after, live-mark, live-cost, opened, live-marks, running-costs, closing-cost}
+use Rattle.report.specs.Replies.{close-cost}
 use Rattle.report.specs.Sheet.{columns-of, sheet-of}
 use Rattle.report.specs.Output.{output-by, output}
-use Rattle.guarantees.specs.Week.{Given, Week, planned, checked, logged, tied, printed, same, as-numbers, answer-numbers, requests-given, live-letter, least-so-far, plan-letters, plan-numbers, costs-from, letters-from, log-of, right, all-right}
+use Rattle.guarantees.specs.Week.{Given, Week, planned, checked, logged, tied, printed, same, as-numbers, answer-numbers, requests-given, live-letter, least-so-far, plan-letters, plan-numbers, costs-from, close-after, letters-from, log-of, right, all-right}
 
 -- K and S
 abbrev k : ℕ
@@ -50,45 +51,47 @@ given class′ count ts xs =
 
 -- A no requests; B 002's example times ten; C, and that two other markings cost the same; D; E; F class 6
 -- G a cycle with no copy behind it, and with one; H the last second; I equal seconds
--- and what the program prints for A, C and I
+-- and what the program prints for A, in classes 0, 2 and 6, for C and for I
 unfoldable pub weeks : List Week
 weeks =
-    planned (given 0 2 [] []) (0 ∷ []) (0 ∷ []) [] [] []
+    planned (given 0 2 [] []) (0 ∷ []) (0 ∷ []) 10 [] [] []
     ∷ planned (given 0 4 (5 ∷ 8 ∷ 11 ∷ 14 ∷ 26 ∷ 32 ∷ 40 ∷ []) (1 ∷ 2 ∷ 3 ∷ 0 ∷ 1 ∷ 1 ∷ 2 ∷ []))
-    (0 ∷ 15 ∷ 28 ∷ 41 ∷ 44 ∷ 65 ∷ 71 ∷ 89 ∷ []) (0 ∷ 15 ∷ 31 ∷ 50 ∷ 62 ∷ 102 ∷ 114 ∷ 136 ∷ [])
+    (0 ∷ 15 ∷ 28 ∷ 41 ∷ 44 ∷ 65 ∷ 71 ∷ 89 ∷ []) (0 ∷ 15 ∷ 31 ∷ 50 ∷ 62 ∷ 102 ∷ 114 ∷ 136 ∷ []) 156
     (s ∷ s ∷ s ∷ k ∷ k ∷ k ∷ s ∷ []) (s ∷ s ∷ s ∷ k ∷ s ∷ k ∷ s ∷ [])
     (0 ∷ 0 ∷ 0 ∷ 14 ∷ 0 ∷ 1 ∷ 5 ∷ 40 ∷ 1 ∷ 0 ∷ 1 ∷ 5 ∷ 1 ∷ 1 ∷ 2 ∷ 8 ∷ 1 ∷ 1 ∷ 3 ∷ 11 ∷ 1 ∷ 1 ∷ 2 ∷ 40 ∷ [])
     ∷ planned (given 0 3 (1 ∷ 2 ∷ 11 ∷ 12 ∷ []) (1 ∷ 2 ∷ 1 ∷ 0 ∷ []))
-    (0 ∷ 11 ∷ 22 ∷ 31 ∷ 42 ∷ []) (0 ∷ 11 ∷ 23 ∷ 50 ∷ 62 ∷ []) (s ∷ s ∷ k ∷ k ∷ []) (s ∷ s ∷ k ∷ s ∷ [])
+    (0 ∷ 11 ∷ 22 ∷ 31 ∷ 42 ∷ []) (0 ∷ 11 ∷ 23 ∷ 50 ∷ 62 ∷ []) 82 (s ∷ s ∷ k ∷ k ∷ []) (s ∷ s ∷ k ∷ s ∷ [])
     (0 ∷ 0 ∷ 0 ∷ 12 ∷ 0 ∷ 1 ∷ 1 ∷ 11 ∷ 1 ∷ 0 ∷ 1 ∷ 1 ∷ 1 ∷ 1 ∷ 2 ∷ 2 ∷ [])
     ∷ tied (given 0 3 (1 ∷ 2 ∷ 11 ∷ 12 ∷ []) (1 ∷ 2 ∷ 1 ∷ 0 ∷ [])) 42 3
-    ∷ planned (given 0 2 (1 ∷ 11 ∷ []) (1 ∷ 0 ∷ [])) (0 ∷ 11 ∷ 21 ∷ []) (0 ∷ 11 ∷ 31 ∷ []) (s ∷ k ∷ []) (s ∷ k ∷ [])
+    ∷ planned (given 0 2 (1 ∷ 11 ∷ []) (1 ∷ 0 ∷ [])) (0 ∷ 11 ∷ 21 ∷ []) (0 ∷ 11 ∷ 31 ∷ []) 41 (s ∷ k ∷ []) (s ∷ k ∷ [])
     (0 ∷ 0 ∷ 0 ∷ 11 ∷ 1 ∷ 0 ∷ 1 ∷ 1 ∷ [])
-    ∷ planned (given 0 2 (1 ∷ 12 ∷ []) (1 ∷ 0 ∷ [])) (0 ∷ 11 ∷ 22 ∷ []) (0 ∷ 11 ∷ 42 ∷ []) (s ∷ k ∷ []) (s ∷ s ∷ [])
+    ∷ planned (given 0 2 (1 ∷ 12 ∷ []) (1 ∷ 0 ∷ [])) (0 ∷ 11 ∷ 22 ∷ []) (0 ∷ 11 ∷ 42 ∷ []) 62 (s ∷ k ∷ []) (s ∷ s ∷ [])
     (0 ∷ 0 ∷ 0 ∷ 12 ∷ 1 ∷ 0 ∷ 1 ∷ 1 ∷ [])
-    ∷ planned (given 6 2 (1 ∷ 2 ∷ []) (1 ∷ 0 ∷ [])) (0 ∷ 12 ∷ 19 ∷ []) (0 ∷ 12 ∷ 24 ∷ []) (s ∷ k ∷ []) (s ∷ s ∷ [])
+    ∷ planned (given 6 2 (1 ∷ 2 ∷ []) (1 ∷ 0 ∷ [])) (0 ∷ 12 ∷ 19 ∷ []) (0 ∷ 12 ∷ 24 ∷ []) 24 (s ∷ k ∷ []) (s ∷ s ∷ [])
     (0 ∷ 0 ∷ 0 ∷ 2 ∷ 1 ∷ 0 ∷ 1 ∷ 1 ∷ [])
     ∷ checked (given 0 2 (1 ∷ []) (0 ∷ [])) (1 ∷ 0 ∷ 1 ∷ 1 ∷ 1 ∷ 1 ∷ 0 ∷ 1 ∷ []) 17 1 0
     ∷ checked (given 0 2 (1 ∷ []) (0 ∷ [])) (0 ∷ 0 ∷ 0 ∷ 1 ∷ 1 ∷ 0 ∷ 1 ∷ 1 ∷ 1 ∷ 1 ∷ 0 ∷ 1 ∷ []) 0 0 21
     ∷ logged (given 0 2 (4000000 ∷ []) (0 ∷ [])) 0 0
     ∷ logged (given 0 2 (4000001 ∷ []) (0 ∷ [])) 12 1
     ∷ logged (given 0 2 (5 ∷ 5 ∷ []) (0 ∷ 0 ∷ [])) 13 2
-    ∷ printed (given 0 2 [] []) "scan second station plan live least bill\nrows 0\n"
+    ∷ printed (given 0 2 [] []) "scan second station plan live least bill\nrows 0\nclose 10\n"
+    ∷ printed (given 2 2 [] []) "scan second station plan live least bill\nrows 0\nclose 24\n"
+    ∷ printed (given 6 2 [] []) "scan second station plan live least bill\nrows 0\nclose 0\n"
     ∷ printed (given 0 3 (1 ∷ 2 ∷ 11 ∷ 12 ∷ []) (1 ∷ 2 ∷ 1 ∷ 0 ∷ []))
-    "scan second station plan live least bill\n1 1 1 S S 11 11\n2 2 2 S S 22 23\n3 11 1 K K 31 50\n4 12 0 K S 42 62\nrows 4\n"
+    "scan second station plan live least bill\n1 1 1 S S 11 11\n2 2 2 S S 22 23\n3 11 1 K K 31 50\n4 12 0 K S 42 62\nrows 4\nclose 82\n"
     ∷ printed (given 0 2 (5 ∷ 5 ∷ []) (0 ∷ 0 ∷ [])) "refused input 13 place 2\n"
     ∷ []
 
 -- a week of our own, where 002's table would take K at the last request for a cost that 01's marks do not allow
 unfoldable pub own-weeks : List Week
 own-weeks =
-    planned (given 0 2 (1 ∷ 12 ∷ 13 ∷ []) (1 ∷ 1 ∷ 0 ∷ [])) (0 ∷ 11 ∷ 22 ∷ 33 ∷ []) (0 ∷ 11 ∷ 32 ∷ 43 ∷ []) (s ∷ k ∷ s ∷ []) (s ∷ k ∷ s ∷ [])
+    planned (given 0 2 (1 ∷ 12 ∷ 13 ∷ []) (1 ∷ 1 ∷ 0 ∷ [])) (0 ∷ 11 ∷ 22 ∷ 33 ∷ []) (0 ∷ 11 ∷ 32 ∷ 43 ∷ []) 63 (s ∷ k ∷ s ∷ []) (s ∷ k ∷ s ∷ [])
     (0 ∷ 0 ∷ 0 ∷ 1 ∷ 0 ∷ 1 ∷ 1 ∷ 13 ∷ 1 ∷ 0 ∷ 1 ∷ 1 ∷ 1 ∷ 1 ∷ 0 ∷ 13 ∷ [])
     ∷ []
 
 -- every line of the table holds
 pub weeks-right : all-right (weeks ++ own-weeks) ≡ true
-unfolding weeks own-weeks all-right right same as-numbers answer-numbers requests-in prices-in check-conditions check-verdict-of checked-by check-answer requests-given letter live-letter least-so-far plan-letters plan-numbers costs-from letters-from log-of build first each has put lowest distance none-nearer nearest classes prices-of window version class-of server-count home-of request-count requests-offset id-offset total-length written-sum length-for seconds-of servers-of sum-from sum-of setup-conditions header-conditions before request-conditions log-conditions verdict-of head request-bytes requests-bytes body encode sum total requests latest previous length-of is-transfer cost-of reach arrive through reached rounds standing stands numbers flat row-of row-at rows-upto rows-of fits earlier follows keeps some? legal gap begin after spans any covered holds own cost begins-run run-end hold-rows all-holds transfers source rows-from rows put-mark markings first-least least-of plan plan-cost plan-rows row-count misfits misplaced row-conditions backed copy-condition serve-condition schedule-conditions check-cost across set-of some-server class-prices window-of copy-at use-at fresh lasts kept uses stands-after next-use seconds accept running any-of server-broken broken scan-conditions start-verdict started-by started scan-verdict scanned-by scanned mark-outcome marks-of planned-rows least-costs after-call run digits decimal ascii line-end line list-word refusal-text heading entry-line entry-lines last-line sheet-text entry-of scans state-after live-mark live-cost opened live-marks running-costs columns-of sheet-of output-by output
+unfolding weeks own-weeks all-right right same as-numbers answer-numbers requests-in prices-in check-conditions check-verdict-of checked-by check-answer requests-given letter live-letter least-so-far plan-letters plan-numbers costs-from close-after letters-from close-cost log-of build first each has put lowest distance none-nearer nearest classes prices-of window version class-of server-count home-of request-count requests-offset id-offset total-length written-sum length-for seconds-of servers-of sum-from sum-of setup-conditions header-conditions before request-conditions log-conditions verdict-of head request-bytes requests-bytes body encode sum total requests latest previous length-of is-transfer cost-of reach arrive through reached rounds standing stands numbers flat row-of row-at rows-upto rows-of fits earlier follows keeps some? legal gap begin after spans any covered holds own cost begins-run run-end hold-rows all-holds transfers source rows-from rows put-mark markings first-least least-of plan plan-cost plan-rows row-count misfits misplaced row-conditions backed copy-condition serve-condition schedule-conditions check-cost across set-of some-server class-prices window-of copy-at use-at fresh lasts kept uses stands-after next-use seconds accept running remaining closing any-of server-broken broken scan-conditions close-conditions start-verdict started-by started scan-verdict scanned-by scanned mark-outcome close-verdict closed-by closed-answer marks-of planned-rows least-costs after-call run digits decimal ascii line-end line list-word refusal-text heading entry-line entry-lines figure-line sheet-text entry-of scans state-after live-mark live-cost opened live-marks running-costs closing-cost columns-of sheet-of output-by output
 weeks-right = refl
 
 -- the two windows that 01's 'Prices' names: of class 4 and of class 6

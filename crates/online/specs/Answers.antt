@@ -16,7 +16,7 @@ use Rattle.online.specs.declared.RunningCost.{RunningCost}
 use Rattle.online.specs.declared.RunningCost.the-variants as running′
 use Rattle.online.specs.declared.CloseOutcome.the-variants as close
 use Rattle.online.specs.declared.Closed.{Closed}
-use Rattle.online.specs.Rules.{fresh, zeros, kept, accept, running, shut}
+use Rattle.online.specs.Rules.{fresh, zeros, kept, accept, running, closing, shut}
 use Rattle.online.specs.Conditions.{scan-conditions, running-conditions, close-conditions}
 
 -- what refuses a start: the first condition that holds
@@ -67,9 +67,9 @@ running-by (Refused r) c = running′.Refused r
 unfoldable pub running-answer : Cache → RunningCost
 running-answer c = running-by (running-verdict c) c
 
--- a close by its verdict: the running cost and the state closed, or refused
+-- a close by its verdict: the closing cost and the state closed, or refused
 unfoldable pub closed-by : Verdict → Cache → Closed
-closed-by Passed c = record { cache = shut c; outcome = close.Cost (running c) }
+closed-by Passed c = record { cache = shut c; outcome = close.Cost (closing c) }
 closed-by (Refused r) c = record { cache = c; outcome = close.Refused r }
 
 -- a close

@@ -1,4 +1,4 @@
--- What a start and a scan have that are not refused.
+-- What a start, a scan and a close have that are not refused.
 use mathlib.Core.Bool.{false}
 use mathlib.Core.Logic.{_≢_, _↔_}
 use mathlib.Core.Path.{_≡_}
@@ -13,8 +13,8 @@ use Rattle.log.specs.declared.Setup.{Setup}
 use Rattle.log.specs.Ranges.{Allowed}
 use Rattle.log.specs.AcceptedLaws.{setup-allowed}
 use Rattle.online.specs.declared.Cache.{Cache}
-use Rattle.online.specs.Conditions.{scan-conditions}
-use Rattle.online.specs.Answers.{start-verdict, scan-verdict}
+use Rattle.online.specs.Conditions.{scan-conditions, close-conditions}
+use Rattle.online.specs.Answers.{start-verdict, scan-verdict, close-verdict}
 use Rattle.online.specs.Intact.{Intact, unbroken-intact}
 
 -- a start that is not refused is given what is allowed
@@ -47,3 +47,8 @@ scan-passed c second server e =
       room = leb-false _ _ (f 4);
       later = leb-false _ _ (f 5);
     }
+
+-- the state of a close that is not refused: intact, and not closed
+pub close-passed : (c : Cache) → close-verdict c ≡ Passed → Intact c × (c .closed ≡ false)
+unfolding close-verdict close-conditions
+close-passed c e = let f = first-passed (close-conditions c) .0 e in (unbroken-intact c (f 0), f 1)

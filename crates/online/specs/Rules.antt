@@ -1,4 +1,4 @@
--- The rules of the online cache, in the order of 01's 'The live keeper': a start, one request, the close. Assumes nothing.
+-- The rules of the online cache, in the order of 01's 'The live keeper': a start, one request, the close (02's Req 02). Assumes nothing.
 use mathlib.Core.Bool.{Bool, true, false}
 use Prim.Native.Nat.{ℕ, suc, _+_, _-_, _*_, min}
 use lib.Dec.{leb, eqb}
@@ -112,6 +112,14 @@ accept c τ x =
 -- the running cost (01: running bill): all holding up to the last request, and all transfers
 unfoldable pub running : Cache → ℕ
 running c = class-prices c .hold * c .held + class-prices c .transfer * c .transfers
+
+-- what is left of the window of a copy at y when the last request has been served: its last use plus the window, less the last second
+unfoldable pub remaining : Cache → ℕ → ℕ
+remaining c y = pick (copy-at c y) (use-at c y + window-of c - c .second) 0
+
+-- the closing cost (02: closing bill): the running cost, and the holding of each standing copy to its end
+unfoldable pub closing : Cache → ℕ
+closing c = running c + class-prices c .hold * across 64 (remaining c)
 
 -- the same state, now closed
 unfoldable pub shut : Cache → Cache

@@ -156,9 +156,9 @@ pub sum-last : (n : ℕ) (f : ℕ → ℕ) → across n (given 0 0 f) ≡ across
 sum-last n f = across-same n (given 0 0 f) f (λ y l. given-last 0 f y)
 
 -- where no server gives more than m it stays at n times m
-pub sum-most : (n left m : ℕ) (f : ℕ → ℕ) → ((y : ℕ) → f y ≤ m) → across n (given 0 left f) ≤ n * m
-sum-most n left m f h = omega (arith, across-le n (given 0 left f) (λ y. m) (λ y l. go y (has left y) refl), across-const n m)
+pub sum-most : (n left m : ℕ) (f : ℕ → ℕ) → ((y : ℕ) → y < n → f y ≤ m) → across n (given 0 left f) ≤ n * m
+sum-most n left m f h = omega (arith, across-le n (given 0 left f) (λ y. m) (λ y l. go y l (has left y) refl), across-const n m)
   where
-    go : (y : ℕ) (b : Bool) → has left y ≡ b → given 0 left f y ≤ m
-    go y true e = omega (arith, given-left 0 left f y e)
-    go y false e = omega (arith, given-taken 0 left f y e, h y)
+    go : (y : ℕ) → y < n → (b : Bool) → has left y ≡ b → given 0 left f y ≤ m
+    go y l true e = omega (arith, given-left 0 left f y e)
+    go y l false e = omega (arith, given-taken 0 left f y e, h y l)

@@ -63,7 +63,7 @@ pub enum RunningCost {
     Refused(Refusal),
 }
 
-// A close gives the running cost, or is refused.
+// A close gives the closing cost (02: closing bill), or is refused.
 pub enum CloseOutcome {
     Cost(u64),
     Refused(Refusal),

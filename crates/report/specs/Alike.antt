@@ -33,11 +33,11 @@ unfolding lent
 lent-alike xs o o′ e i = rw e (padded-alike xs (length o - length xs) i)
 
 -- the sheet
-pub sheet-alike : (c d : Columns) (n rows : ℕ) → Alike (c .seconds) (d .seconds) → Alike (c .servers) (d .servers) → Alike (c .plan) (d .plan)
+pub sheet-alike : (c d : Columns) (n rows closing : ℕ) → Alike (c .seconds) (d .seconds) → Alike (c .servers) (d .servers) → Alike (c .plan) (d .plan)
     → Alike (c .live) (d .live) → Alike (c .least) (d .least) → Alike (c .costs) (d .costs)
-    → sheet-text (entry-of c) n rows ≡ sheet-text (entry-of d) n rows
+    → sheet-text (entry-of c) n rows closing ≡ sheet-text (entry-of d) n rows closing
 unfolding entry-of
-sheet-alike c d n rows h k l m p q = ap (λ (e : ℕ → Entry). sheet-text e n rows) (λ j i. same i j)
+sheet-alike c d n rows closing h k l m p q = ap (λ (e : ℕ → Entry). sheet-text e n rows closing) (λ j i. same i j)
   where
     same : (i : ℕ) → entry-of c i ≡ entry-of d i
     same i = rw (h i, k i, l i, m i, p (suc i), q i)

@@ -1,4 +1,4 @@
--- The online cache over the requests of a log: its marks, and its running costs. Assumes nothing.
+-- The online cache over the requests of a log: its marks, its running costs, and its closing cost. Assumes nothing.
 use mathlib.Core.List.{List}
 use Prim.Native.Nat.{ℕ, suc}
 use lib.ListN.{getD}
@@ -6,7 +6,7 @@ use Rattle.base.specs.Choice.{pick}
 use Rattle.base.specs.Lists.{build}
 use Rattle.log.specs.Fields.{setup-of, request-count, seconds-of, servers-of}
 use Rattle.online.specs.declared.Cache.{Cache}
-use Rattle.online.specs.Rules.{kept, running}
+use Rattle.online.specs.Rules.{kept, running, closing}
 use Rattle.online.specs.Answers.{started}
 use Rattle.bounds.specs.Calls.{Call, scan, run}
 
@@ -18,7 +18,7 @@ scans seconds servers k = build k (λ i. scan (getD seconds i 0) (getD servers i
 unfoldable pub state-after : Cache → List ℕ → List ℕ → ℕ → Cache
 state-after c seconds servers k = run c (scans seconds servers k)
 
--- ---- marks and running costs
+-- ---- marks and costs
 
 -- the mark of request i, from 0, as a letter: K if it is kept, else S
 unfoldable pub live-mark : Cache → List ℕ → List ℕ → ℕ → ℕ
@@ -39,3 +39,7 @@ live-marks log = build (request-count log) (live-mark (opened log) (seconds-of l
 -- the running costs of its first requests
 unfoldable pub running-costs : List ℕ → List ℕ
 running-costs log = build (request-count log) (live-cost (opened log) (seconds-of log) (servers-of log))
+
+-- the closing cost after all of them
+unfoldable pub closing-cost : List ℕ → ℕ
+closing-cost log = closing (state-after (opened log) (seconds-of log) (servers-of log) (request-count log))

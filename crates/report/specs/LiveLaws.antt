@@ -1,4 +1,4 @@
--- No scan of an accepted log's requests is refused.
+-- No scan of an accepted log's requests is refused, nor a close after them.
 use mathlib.Core.Bool.{Bool, true, false}
 use mathlib.Core.List.{List, [], _∷_, _++_}
 use mathlib.Core.Path.{_≡_, refl, ap, _∙_}
@@ -20,8 +20,8 @@ use Rattle.model.specs.LogRequests.{requests-in}
 use Rattle.online.specs.declared.Cache.{Cache}
 use Rattle.online.specs.declared.ScanOutcome.the-variants as scan′
 use Rattle.online.specs.Rules.{fresh, kept, accept, running}
-use Rattle.online.specs.Conditions.{scan-conditions}
-use Rattle.online.specs.Answers.{start-verdict, scan-verdict, started, started-by, mark-outcome, scanned, scanned-by}
+use Rattle.online.specs.Conditions.{scan-conditions, close-conditions}
+use Rattle.online.specs.Answers.{start-verdict, scan-verdict, close-verdict, started, started-by, mark-outcome, scanned, scanned-by}
 use Rattle.bounds.specs.Calls.{Call, scan, after, run}
 use Rattle.bounds.specs.CallLaws.{after-scan}
 use Rattle.online.specs.Passed.{start-passed}
@@ -81,6 +81,11 @@ unfolding live-mark live-cost
 turn-next c seconds servers i state e g =
     rw (e, state-next c seconds servers i g)
     (turn-passed (state-after c seconds servers i) (getD seconds i 0) (getD servers i 0) g)
+
+-- the verdict of a close for which nothing holds
+close-passes : (c : Cache) → Intact c → c .closed ≡ false → close-verdict c ≡ Passed
+unfolding close-verdict close-conditions first
+close-passes c s e = rw (intact-unbroken c s, e)
 
 -- the verdict of a scan for which nothing holds
 scan-passes : (c : Cache) (second server : ℕ) → server < c .«server_count» → 1 ≤ second → second ≤ 4000000 → Intact c → c .closed ≡ false
@@ -167,3 +172,7 @@ module _ (log : List ℕ) (a : Accepted log) where
   -- every request is scanned
   pub goes-on : (k : ℕ) → k < request-count log → scan-verdict (state k) (second k) (server k) ≡ Passed
   goes-on k h = passes k h (at k (omega arith))
+
+  -- and the close after them is not refused
+  pub closes : close-verdict (state (request-count log)) ≡ Passed
+  closes = let s = at (request-count log) (omega arith) in close-passes (state (request-count log)) (intact-at (request-count log) s) (s .unclosed)

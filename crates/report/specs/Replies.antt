@@ -5,6 +5,8 @@ use Rattle.planner.specs.declared.Planned.the-variants as planned′
 use Rattle.online.specs.declared.Cache.{Cache}
 use Rattle.online.specs.declared.ScanOutcome.{ScanOutcome}
 use Rattle.online.specs.declared.ScanOutcome.the-variants as scan′
+use Rattle.online.specs.declared.CloseOutcome.{CloseOutcome}
+use Rattle.online.specs.declared.CloseOutcome.the-variants as close′
 use Rattle.online.specs.Answers.{scanned}
 use Rattle.report.specs.declared.live.Turn.{Turn}
 
@@ -30,3 +32,8 @@ unfoldable pub turn : Cache → ℕ → ℕ → Turn
 turn c second server =
     let s = scanned c second server in
     record { cache = s .cache; mark = outcome-letter (s .outcome); cost = outcome-cost (s .outcome) }
+
+-- the closing cost that a close gives; a refused one gives none
+unfoldable pub close-cost : CloseOutcome → ℕ
+close-cost (close′.Cost cost) = cost
+close-cost (close′.Refused r) = 0

@@ -8,7 +8,7 @@ use Rattle.base.specs.declared.Verdict.{Verdict}
 use Rattle.log.specs.Fields.{request-count, seconds-of, servers-of}
 use Rattle.log.specs.Conditions.{log-conditions}
 use Rattle.planner.specs.Answers.{marks-of, planned-rows, least-costs}
-use Rattle.report.specs.Live.{live-marks, running-costs}
+use Rattle.report.specs.Live.{live-marks, running-costs, closing-cost}
 use Rattle.report.specs.Text.{Columns, columns, entry-of, sheet-text}
 
 -- seconds, servers, plan marks over the whole log, online marks, least and running costs of the requests so far
@@ -17,7 +17,7 @@ columns-of log = columns (seconds-of log) (servers-of log) (marks-of log) (live-
 
 -- the bytes of the sheet
 unfoldable pub sheet-of : List ℕ → List ℕ
-sheet-of log = sheet-text (entry-of (columns-of log)) (request-count log) (length (planned-rows log))
+sheet-of log = sheet-text (entry-of (columns-of log)) (request-count log) (length (planned-rows log)) (closing-cost log)
 
 -- its conditions: the log's, then 31 for what is lent
 unfoldable pub sheet-verdict : List ℕ → ℕ → Verdict

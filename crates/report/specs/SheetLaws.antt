@@ -16,6 +16,7 @@ use Rattle.log.specs.Fields.{request-count, server-count, seconds-of, servers-o
 use Rattle.log.specs.Conditions.{Accepted, log-conditions, verdict-of}
 use Rattle.log.specs.AcceptedLaws.{accepted-sound}
 use Rattle.online.specs.declared.Cache.{Cache}
+use Rattle.online.specs.Answers.{closed-by, closed-answer}
 use Rattle.model.specs.FlatLaws.{flat-length}
 use Rattle.model.specs.LogRequests.{requests-in}
 use Rattle.model.specs.LogRequestLaws.{log-within}
@@ -26,8 +27,9 @@ use Rattle.planner.specs.Sizes.{places, rows-room}
 use Rattle.planner.specs.Answers.{marks-of, planned-rows, rows-of-plan, plan-verdict, least-costs, least-verdict}
 use Rattle.text.specs.Answers.{room-verdict}
 use Rattle.report.specs.Alike.{Alike, state-alike, mark-alike, cost-alike, sheet-alike}
-use Rattle.report.specs.Live.{live-mark, live-cost, live-marks, running-costs, opened}
-use Rattle.report.specs.LiveLaws.{Runs, goes-on}
+use Rattle.report.specs.Live.{state-after, live-mark, live-cost, live-marks, running-costs, closing-cost, opened}
+use Rattle.report.specs.LiveLaws.{Runs, goes-on, closes}
+use Rattle.report.specs.Replies.{close-cost}
 use Rattle.report.specs.Sheet.{columns-of, sheet-of, sheet-verdict}
 use Rattle.report.specs.Text.{columns, entry-of, sheet-text}
 
@@ -77,15 +79,16 @@ module _ (log : List ℕ) (a : Accepted log) where
       rw (state-alike (opened log) seconds servers (seconds-of log) (servers-of log) h k i, h i, k i) (goes-on log a i l)
 
 -- lists that hold what the calls answer make the sheet
-pub sheet-made : (log : List ℕ) (n rows : ℕ) (cache : Cache) (seconds servers plan live least costs : List ℕ)
+pub sheet-made : (log : List ℕ) (n rows closing : ℕ) (cache : Cache) (seconds servers plan live least costs : List ℕ)
     → n ≡ request-count log → rows ≡ length (planned-rows log) → cache ≡ opened log
     → Alike seconds (seconds-of log) → Alike servers (servers-of log) → Alike plan (marks-of log) → Alike least (least-costs log)
     → Alike live (build n (live-mark cache seconds servers)) → Alike costs (build n (live-cost cache seconds servers))
-    → sheet-text (entry-of (columns seconds servers plan live least costs)) n rows ≡ sheet-of log
+    → closing ≡ closing-cost log
+    → sheet-text (entry-of (columns seconds servers plan live least costs)) n rows closing ≡ sheet-of log
 unfolding sheet-of columns-of live-marks running-costs
-sheet-made log n rows cache seconds servers plan live least costs e f g h k l m p q =
-    rw (e, f)
-    (sheet-alike (columns seconds servers plan live least costs) (columns-of log) (request-count log) (length (planned-rows log)) h k l (λ i. rw (← marks) (p i)) m
+sheet-made log n rows closing cache seconds servers plan live least costs e f g h k l m p q z =
+    rw (e, f, z)
+    (sheet-alike (columns seconds servers plan live least costs) (columns-of log) (request-count log) (length (planned-rows log)) (closing-cost log) h k l (λ i. rw (← marks) (p i)) m
     (λ i. rw (← amounts) (q i)))
   where
     marks : build n (live-mark cache seconds servers) ≡ live-marks log
@@ -97,3 +100,13 @@ sheet-made log n rows cache seconds servers plan live least costs e f g h k l m 
     amounts =
         rw (e, g)
         (build-same (request-count log) _ _ (λ j b. cost-alike (opened log) seconds servers (seconds-of log) (servers-of log) h k j))
+
+-- the close after a log's requests gives its closing cost
+pub closing-made : (log : List ℕ) (n : ℕ) (cache end : Cache) (seconds servers : List ℕ) → Accepted log
+    → n ≡ request-count log → cache ≡ opened log → Alike seconds (seconds-of log) → Alike servers (servers-of log)
+    → end ≡ state-after cache seconds servers n → close-cost (closed-answer end .outcome) ≡ closing-cost log
+unfolding closing-cost close-cost closed-answer closed-by
+closing-made log n cache end seconds servers a e g h k s =
+    let state : end ≡ state-after (opened log) (seconds-of log) (servers-of log) (request-count log) =
+    s ∙ rw (e, g) (state-alike (opened log) seconds servers (seconds-of log) (servers-of log) h k (request-count log)) in
+    rw (state, closes log a)

@@ -13,9 +13,9 @@ use Rattle.model.specs.PlanLaws.{plan-best}
 use Rattle.planner.specs.Answers.{planned-rows, least-costs}
 use Rattle.planner.specs.Fits.{best-small}
 use Rattle.planner.specs.LoadedLaws.{log-fits}
-use Rattle.online.specs.Widths.{running-fits}
+use Rattle.online.specs.Widths.{running-fits, closing-fits}
 use Rattle.report.specs.declared.Entry.{Entry}
-use Rattle.report.specs.Live.{live-cost, opened, running-costs}
+use Rattle.report.specs.Live.{live-cost, opened, running-costs, closing-cost}
 use Rattle.report.specs.LiveLaws.{intact-after}
 use Rattle.report.specs.Sizes.{entry-room, sheet-room}
 use Rattle.report.specs.Sheet.{columns-of, sheet-of}
@@ -37,6 +37,10 @@ module _ (log : List ℕ) (a : Accepted log) where
       let s = intact-after log a (suc i) h in
       rw (build-at (request-count log) (live-cost (opened log) (seconds-of log) (servers-of log)) i 0 h)
       (running-fits _ (omega (arith, s .held-most)) (omega (arith, s .transfers-most, s .requests-most)))
+
+  closing-small : closing-cost log < 2 ^ 64
+  unfolding closing-cost
+  closing-small = closing-fits _ (intact-after log a (request-count log) (omega arith))
 
   abbrev entry : ℕ → Entry
   entry = entry-of (columns-of log)
@@ -61,4 +65,5 @@ module _ (log : List ℕ) (a : Accepted log) where
   unfolding sheet-of
   sheet-fits =
       let few = accepted-sound log a .requests-most in
-      sheet-length entry (request-count log) (length (planned-rows log)) few (omega (arith, few-rows log a, few)) (lines-short (request-count log) (omega arith))
+      sheet-length entry (request-count log) (length (planned-rows log)) (closing-cost log) few (omega (arith, few-rows log a, few)) closing-small
+      (lines-short (request-count log) (omega arith))

@@ -6,6 +6,6 @@ use Rattle.log.specs.Sizes.{most-requests}
 abbrev pub entry-room : ℕ
 entry-room = 109
 
--- room for any sheet: its first line, one for each request, and its last line
+-- room for any sheet: its first line, one for each request, and its last two lines
 abbrev pub sheet-room : ℕ
-sheet-room = 41 + entry-room * most-requests + 26
+sheet-room = 41 + entry-room * most-requests + 26 + 27

@@ -28,13 +28,14 @@ unfoldable pub entry-lines : (ℕ → Entry) → ℕ → List ℕ
 entry-lines e zero = []
 entry-lines e (suc k) = entry-lines e k ++ entry-line (e k)
 
--- the last line counts the plan's rows
-unfoldable pub last-line : ℕ → List ℕ
-last-line rows = line (ascii "rows" ∷ decimal rows ∷ [])
+-- a line with a word and a number
+unfoldable pub figure-line : List ℕ → ℕ → List ℕ
+figure-line word n = line (word ∷ decimal n ∷ [])
 
--- the whole sheet of n requests
-unfoldable pub sheet-text : (ℕ → Entry) → ℕ → ℕ → List ℕ
-sheet-text e n rows = heading ++ (entry-lines e n ++ last-line rows)
+-- the whole sheet of n requests: the last lines give the number of the plan's rows, and the closing cost (02's Req 02)
+unfoldable pub sheet-text : (ℕ → Entry) → ℕ → ℕ → ℕ → List ℕ
+sheet-text e n rows closing =
+    heading ++ (entry-lines e n ++ (figure-line (ascii "rows") rows ++ figure-line (ascii "close") closing))
 
 -- ---- its columns, one list for each
 

@@ -22,5 +22,5 @@ pub struct Entry {
 // How many bytes of an input are read at most: one more than the longest log has.
 pub const LIMIT: usize = LOG_ROOM + 1;
 
-// Room for any sheet: its first line, one of at most 109 bytes for each request, and its last line.
-pub const SHEET_ROOM: usize = 41 + 109 * MOST_REQUESTS + 26;
+// Room for any sheet: its first line, one of at most 109 bytes for each request, and its last two lines.
+pub const SHEET_ROOM: usize = 41 + 109 * MOST_REQUESTS + 26 + 27;

@@ -5,7 +5,7 @@ ghost use lib.ListN.{length, take};
 ghost use Rattle.log.specs.Sizes.{most-requests};
 ghost use Rattle.text.specs.Page.{page, added};
 ghost use Rattle.report.specs.Sizes.{entry-room, sheet-room};
-ghost use Rattle.report.specs.Text.{heading, entry-line, entry-lines, last-line, sheet-text, columns, entry-of};
+ghost use Rattle.report.specs.Text.{heading, entry-line, entry-lines, figure-line, sheet-text, columns, entry-of};
 use crate::Entry;
 use base::widths::u64_from_size;
 use base::widths::u64_from_u16;
@@ -38,12 +38,12 @@ pub fn put_entry(text: &mut [u8], at: usize, entry: Entry) -> usize
     put_byte(text, g, b'\n')
 }
 
-// The last line.
-pub fn put_last(text: &mut [u8], at: usize, rows: u64) -> usize
-    ensures { λ r. ⌜ page r (now (text .exit)) ≡ added (last-line rows) (page at (now (text .entry))) ⌝ }
+// A line with a word and a number.
+pub fn put_figure(text: &mut [u8], at: usize, word: &[u8], n: u64) -> usize
+    ensures { λ r. ⌜ page r (now (text .exit)) ≡ added (figure-line (now (word .entry)) n) (page at (now (text .entry))) ⌝ }
 {
-    let a = put(text, at, b"rows");
-    let b = put_field(text, a, rows);
+    let a = put(text, at, word);
+    let b = put_field(text, a, n);
     put_byte(text, b, b'\n')
 }
 
@@ -108,11 +108,13 @@ pub(crate) fn put_lines(
     costs: &[u64],
     n: usize,
     rows: u64,
+    closing: u64,
 ) -> usize
     requires { ⌜ (n ≤ most-requests) × (most-requests ≤ length (now seconds)) × (most-requests ≤ length (now servers)) × (most-requests ≤ length (now plan)) × (most-requests ≤ length (now live)) × (most-requests < length (now least)) × (most-requests ≤ length (now costs)) × (sheet-room ≤ length (now text)) ⌝ }
-    ensures { λ r. ⌜ (r ≤ length (now (text .exit))) × (take r (now (text .exit)) ≡ sheet-text (entry-of (columns (now (seconds .entry)) (now (servers .entry)) (now (plan .entry)) (now (live .entry)) (now (least .entry)) (now (costs .entry)))) n rows) ⌝ }
+    ensures { λ r. ⌜ (r ≤ length (now (text .exit))) × (take r (now (text .exit)) ≡ sheet-text (entry-of (columns (now (seconds .entry)) (now (servers .entry)) (now (plan .entry)) (now (live .entry)) (now (least .entry)) (now (costs .entry)))) n rows closing) ⌝ }
 {
     let a = put_heading(text, 0);
     let b = put_entries(text, a, seconds, servers, plan, live, least, costs, n);
-    put_last(text, b, rows)
+    let c = put_figure(text, b, b"rows", rows);
+    put_figure(text, c, b"close", closing)
 }

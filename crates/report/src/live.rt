@@ -6,16 +6,17 @@ ghost use lib.ListN.{length, drop};
 ghost use Rattle.base.specs.Lent.{lent};
 ghost use Rattle.base.specs.Lists.{build};
 ghost use Rattle.base.specs.declared.Verdict.the-variants.{Passed};
-ghost use Rattle.online.specs.Answers.{started};
-ghost use Rattle.report.specs.Live.{live-mark, live-cost};
+ghost use Rattle.online.specs.Answers.{started, closed-answer};
+ghost use Rattle.report.specs.Live.{state-after, live-mark, live-cost};
 ghost use Rattle.log.specs.Contents.{setup-in};
-ghost use Rattle.report.specs.Replies.{outcome-letter, outcome-cost, turn};
+ghost use Rattle.report.specs.Replies.{outcome-letter, outcome-cost, turn, close-cost};
 ghost use Rattle.report.specs.LiveLaws.{Runs};
 use base::bytes::clear8;
 use base::bytes::clear64;
 use log::Header;
 use log::Setup;
 use online::Cache;
+use online::CloseOutcome;
 use online::ScanOutcome;
 
 // One request: the next state, the letter of the mark, and the running cost.
@@ -74,7 +75,7 @@ pub fn open(header: Header) -> Cache
     s.cache
 }
 
-// The marks and running costs of n requests, into the fronts of two lists.
+// The marks and running costs of n requests, into the fronts of two lists; and the state after them.
 fn replay(
     cache: Cache,
     seconds: &[u32],
@@ -82,8 +83,9 @@ fn replay(
     n: usize,
     marks: &mut [u8],
     costs: &mut [u64],
-)
+) -> Cache
     requires { ⌜ Runs cache (now seconds) (now servers) n × (n ≤ length (now seconds)) × (n ≤ length (now servers)) × (n ≤ length (now marks)) × (n ≤ length (now costs)) ⌝ }
+    ensures { λ r. ⌜ r ≡ state-after cache (now (seconds .entry)) (now (servers .entry)) n ⌝ }
     ensures { λ _. ⌜ now (marks .exit) ≡ build n (live-mark cache (now (seconds .entry)) (now (servers .entry))) ++ drop n (now (marks .entry)) ⌝ }
     ensures { λ _. ⌜ now (costs .exit) ≡ build n (live-cost cache (now (seconds .entry)) (now (servers .entry))) ++ drop n (now (costs .entry)) ⌝ }
 {
@@ -96,6 +98,7 @@ fn replay(
         state = t.cache;
         i += 1;
     }
+    state
 }
 
 // The same, and zeros after them.
@@ -106,12 +109,26 @@ pub(crate) fn give_live(
     n: usize,
     marks: &mut [u8],
     costs: &mut [u64],
-)
+) -> Cache
     requires { ⌜ Runs cache (now seconds) (now servers) n × (n ≤ length (now seconds)) × (n ≤ length (now servers)) × (n ≤ length (now marks)) × (n ≤ length (now costs)) ⌝ }
+    ensures { λ r. ⌜ r ≡ state-after cache (now (seconds .entry)) (now (servers .entry)) n ⌝ }
     ensures { λ _. ⌜ now (marks .exit) ≡ lent Passed (build n (live-mark cache (now (seconds .entry)) (now (servers .entry)))) (now (marks .entry)) ⌝ }
     ensures { λ _. ⌜ now (costs .exit) ≡ lent Passed (build n (live-cost cache (now (seconds .entry)) (now (servers .entry)))) (now (costs .entry)) ⌝ }
 {
-    replay(cache, seconds, servers, n, marks, costs);
+    let end = replay(cache, seconds, servers, n, marks, costs);
     clear8(marks, n);
     clear64(costs, n);
+    end
+}
+
+// The closing cost of a state that can be closed.
+pub fn closing(cache: Cache) -> u64
+    ensures { λ r. ⌜ r ≡ close-cost (closed-answer cache .outcome) ⌝ }
+{
+    let closed = cache.close();
+    let outcome = closed.outcome;
+    match outcome {
+        CloseOutcome::Cost(cost) => cost,
+        CloseOutcome::Refused(_) => 0,
+    }
 }

@@ -17,6 +17,7 @@ ghost use Rattle.report.specs.Replies.{rows-planned};
 ghost use Rattle.report.specs.Alike.{Alike};
 use crate::SHEET_ROOM;
 use crate::lines::put_lines;
+use crate::live::closing;
 use crate::live::give_live;
 use crate::live::open;
 use base::widths::size_from_u16;
@@ -101,7 +102,8 @@ fn put_sheet(
     let rows = plan_marks(log, &mut marks);
     find_least(log, &mut costs);
     let cache = open(header);
-    give_live(cache, seconds, servers, n, &mut live_marks, &mut live_costs);
+    let end = give_live(cache, seconds, servers, n, &mut live_marks, &mut live_costs);
+    let close = closing(end);
     put_lines(
         text,
         seconds,
@@ -112,6 +114,7 @@ fn put_sheet(
         &live_costs,
         n,
         rows,
+        close,
     )
 }
 

@@ -184,16 +184,16 @@ fn damaged(log: [u8; 64]) -> [u8; 64] {
 
 fn sheet_cases() {
     let log = case_c();
-    sheet_case(b"case C", &log, 113);
-    sheet_case(b"case C", &log, 114);
-    sheet_case(b"case C", &log, 117);
+    sheet_case(b"case C", &log, 122);
+    sheet_case(b"case C", &log, 123);
+    sheet_case(b"case C", &log, 126);
     let other = damaged(log);
-    sheet_case(b"case C damaged", &other, 113);
-    sheet_case(b"case C damaged", &other, 117);
+    sheet_case(b"case C damaged", &other, 122);
+    sheet_case(b"case C damaged", &other, 126);
     let empty = no_request();
-    sheet_case(b"no request", &empty, 47);
-    sheet_case(b"no request", &empty, 48);
-    sheet_case(b"no request", &empty, 51);
+    sheet_case(b"no request", &empty, 56);
+    sheet_case(b"no request", &empty, 57);
+    sheet_case(b"no request", &empty, 60);
 }
 
 fn main() {

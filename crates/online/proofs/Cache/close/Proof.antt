@@ -1,6 +1,8 @@
 -- `online::Cache::close` meets its contract. Assumes nothing.
 use borrow.Author.Needs.{needs}
+use mathlib.Core.Path.{sym, _∙_}
 use Rattle.online.specs.Answers.{closed-by, closed-answer}
+use Rattle.online.specs.Passed.{close-passed}
 use Rattle.online.proofs.Cache.close.Statement.{statement}
 use Rattle.online.proofs.Cache.close.Tie as tie
 
@@ -17,15 +19,17 @@ returns c = rw (← c .before .before .before .close-fault .ensures, c .before .
 enum-told : tie.Need-enum-told
 enum-told c = search needs
 
-running-cost-requires : tie.Need-running-cost-requires
-running-cost-requires c κs = search needs
+closing-cost-requires : tie.Need-closing-cost-requires
+closing-cost-requires c κs =
+    let v = c .before .before in
+    close-passed (v .before .args .self) (sym (v .close-fault .ensures) ∙ c .enum-told .given .1) .0
 
 shut-requires : tie.Need-shut-requires
 shut-requires c κs = search needs
 
 returns-2 : tie.Need-returns-2
 unfolding closed-answer closed-by
-returns-2 c = rw (← c .before .before .before .before .close-fault .ensures, c .before .before .enum-told .given .1, c .shut .ensures, c .before .running-cost .ensures)
+returns-2 c = rw (← c .before .before .before .before .close-fault .ensures, c .before .before .enum-told .given .1, c .shut .ensures, c .before .closing-cost .ensures)
 
 pub close-spec : {M : Type 1} → statement M
 close-spec =
@@ -35,6 +39,6 @@ close-spec =
     enum-known-v
     returns
     enum-told
-    running-cost-requires
+    closing-cost-requires
     shut-requires
     returns-2)

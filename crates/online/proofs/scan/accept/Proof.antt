@@ -91,7 +91,7 @@ add-held c =
       e,
       l .inv .3,
       sum-next 64 (l .left) f y (k .member .ensures .1) (k .member .ensures .0),
-      sum-most 64 (cut (l .left) y) (a .q .second) f (seconds-most (a .cache) (a .q .second)),
+      sum-most 64 (cut (l .left) y) (a .q .second) f (λ y l. seconds-most (a .cache) (a .q .second) y),
       p .2 .second-most,
     ) in
     search needs
@@ -145,7 +145,7 @@ add-t22 c =
     let fits : a .cache .held + l .held < 2 ^ 32 = omega (
       arith,
       l .inv .3,
-      sum-most 64 (l .left) (a .q .second) (seconds (a .cache) (a .q .second)) (seconds-most (a .cache) (a .q .second)),
+      sum-most 64 (l .left) (a .q .second) (seconds (a .cache) (a .q .second)) (λ y l. seconds-most (a .cache) (a .q .second) y),
       p .2 .second-most,
       p .2 .intact .held-most,
     ) in

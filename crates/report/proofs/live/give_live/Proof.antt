@@ -31,8 +31,11 @@ returns c =
     let m = build (a .n) (live-mark (a .cache) x y) in
     let k = build (a .n) (live-cost (a .cache) x y) in
     let r = c .before .before .before .before .before .before .before .before .before .before .before .before .replay .ensures in (
-      c .before .before .before .before .before .before .clear8 .ensures ∙ rw (r .0) (lent-front m (a .marks .now) (a .n) (build-length (a .n) (live-mark (a .cache) x y)) (omega arith)),
-      c .before .before .clear64 .ensures ∙ rw (r .1) (lent-front k (a .costs .now) (a .n) (build-length (a .n) (live-cost (a .cache) x y)) (omega arith)),
+      r .0,
+      (
+        c .before .before .before .before .before .before .clear8 .ensures ∙ rw (r .1 .0) (lent-front m (a .marks .now) (a .n) (build-length (a .n) (live-mark (a .cache) x y)) (omega arith)),
+        c .before .before .clear64 .ensures ∙ rw (r .1 .1) (lent-front k (a .costs .now) (a .n) (build-length (a .n) (live-cost (a .cache) x y)) (omega arith)),
+      ),
     )
 
 pub give-live-spec : {M : Type 1} → statement M

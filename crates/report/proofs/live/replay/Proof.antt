@@ -87,7 +87,7 @@ returns : tie.Need-returns Inv-loop μ-loop
 returns c =
     let l = c .before .loop in
     let e : l .i ≡ c .before .before .before .before .before .before .args .n = omega arith in
-    (rw e at (l .inv .4), rw e at (l .inv .5))
+    (rw e at (l .inv .3), (rw e at (l .inv .4), rw e at (l .inv .5)))
 
 pub replay-spec : {M : Type 1} → statement M
 replay-spec =

@@ -7,7 +7,7 @@ use Rattle.log.specs.Fields.{header-of}
 use Rattle.log.specs.Contents.{setup-in}
 use Rattle.log.specs.declared.Header.{Header}
 use Rattle.online.specs.Answers.{started}
-use Rattle.report.specs.SheetLaws.{runs-read, sheet-made}
+use Rattle.report.specs.SheetLaws.{runs-read, sheet-made, closing-made}
 use Rattle.report.specs.Live.{opened}
 use Rattle.report.specs.Alike.{lent-alike}
 use Rattle.report.proofs.sheets.put_sheet.Statement.{statement}
@@ -49,6 +49,9 @@ give-live-requires c κs =
       omega (arith, n, few),
     )
 
+closing-requires : tie.Need-closing-requires
+closing-requires c κs = search needs
+
 slice-aggregate-put-lines : tie.Need-slice-aggregate-put-lines
 slice-aggregate-put-lines c = search needs
 
@@ -63,16 +66,16 @@ slice-aggregate-put-lines-4 c = search needs
 
 put-lines-requires : tie.Need-put-lines-requires
 put-lines-requires c κs =
-    let s = c .before .before .before .before .before .before .before .before .before .before .before .before .before .before .before .before .before .before .before .before .before in
-    let live = c .before .before .before .before .before .before .before .give-live .kept in
+    let s = c .before .before .before .before .before .before .before .before .before .before .before .before .before .before .before .before .before .before .before .before .before .before in
+    let live = c .before .before .before .before .before .before .before .before .give-live .kept in
     let ((a, _, n), _) = s .pre in
     let few = accepted-sound (s .args .log .now) a .requests-most in (
       omega (arith, n, few),
       search needs,
       search needs,
-      omega (arith, c .before .before .before .before .before .before .before .before .before .before .before .before .before .before .before .plan-marks .kept .1 .0),
+      omega (arith, c .before .before .before .before .before .before .before .before .before .before .before .before .before .before .before .before .plan-marks .kept .1 .0),
       omega (arith, live .1 .1 .1 .1 .0),
-      omega (arith, c .before .before .before .before .before .before .before .before .before .before .before .before .find-least .kept .1 .0),
+      omega (arith, c .before .before .before .before .before .before .before .before .before .before .before .before .before .find-least .kept .1 .0),
       omega (arith, live .1 .1 .1 .1 .1 .0),
       search needs,
     )
@@ -83,15 +86,16 @@ same-length c = search needs
 returns : tie.Need-returns
 unfolding header-of opened
 returns c =
-    let s = c .before .before .before .before .before .before .before .before .before .before .before .before .before .before .before .before .before .before .before .before .before .before .before .before in
+    let s = c .before .before .before .before .before .before .before .before .before .before .before .before .before .before .before .before .before .before .before .before .before .before .before .before .before in
     let log = s .args .log .now in
-    let ((_, from, n), ((seconds, servers), _)) = s .pre in
-    let o : c .before .before .before .before .before .before .before .before .before .before .before .before .before .«open» .result ≡ opened log = c .before .before .before .before .before .before .before .before .before .before .before .before .before .«open» .ensures ∙ ap (λ (h : Header). started (setup-in h) .cache) from in
+    let ((a, from, n), ((seconds, servers), _)) = s .pre in
+    let o : c .before .before .before .before .before .before .before .before .before .before .before .before .before .before .«open» .result ≡ opened log = c .before .before .before .before .before .before .before .before .before .before .before .before .before .before .«open» .ensures ∙ ap (λ (h : Header). started (setup-in h) .cache) from in
     let lines = c .before .before .put-lines .ensures in
-    let planned = c .before .before .before .before .before .before .before .before .before .before .before .before .before .before .before .before .before .before .plan-marks .ensures in
-    let least = c .before .before .before .before .before .before .before .before .before .before .before .before .before .before .before .find-least .ensures in
-    let live = c .before .before .before .before .before .before .before .before .before .before .give-live .ensures in
-    (lines .0, lines .1 ∙ sheet-made log _ _ _ _ _ _ _ _ _ n (planned .0) o seconds servers (lent-alike _ _ _ (planned .1)) (lent-alike _ _ _ least) (lent-alike _ _ _ (live .0)) (lent-alike _ _ _ (live .1)))
+    let planned = c .before .before .before .before .before .before .before .before .before .before .before .before .before .before .before .before .before .before .before .plan-marks .ensures in
+    let least = c .before .before .before .before .before .before .before .before .before .before .before .before .before .before .before .before .find-least .ensures in
+    let live = c .before .before .before .before .before .before .before .before .before .before .before .give-live .ensures in
+    let closed = c .before .before .before .before .before .before .before .before .closing .ensures ∙ closing-made log _ _ _ _ _ a n o seconds servers (live .0) in
+    (lines .0, lines .1 ∙ sheet-made log _ _ _ _ _ _ _ _ _ _ n (planned .0) o seconds servers (lent-alike _ _ _ (planned .1)) (lent-alike _ _ _ least) (lent-alike _ _ _ (live .1 .0)) (lent-alike _ _ _ (live .1 .1)) closed)
 
 pub put-sheet-spec : {M : Type 1} → statement M
 put-sheet-spec =
@@ -105,6 +109,7 @@ put-sheet-spec =
     slice-aggregate-give-live
     slice-aggregate-give-live-2
     give-live-requires
+    closing-requires
     slice-aggregate-put-lines
     slice-aggregate-put-lines-2
     slice-aggregate-put-lines-3
