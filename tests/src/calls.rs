@@ -33,7 +33,7 @@ pub trait Calls {
     /// The running cost, of a closed state too.
     fn running(cache: &Cache) -> Result<u64, Refusal>;
 
-    /// The running cost.
+    /// The closing cost.
     fn close(cache: &Cache) -> (Cache, Result<u64, Refusal>);
 }
 

@@ -1,4 +1,4 @@
-//! 01, 'The live keeper', and the refusals 3 to 5, 11, 12 and 32 to 35.
+//! 01, 'The live keeper', the refusals 3 to 5, 11, 12 and 32 to 35, and 02's request 02.
 
 use crate::log::{check_setup, Request, LAST_SECOND, MOST_REQUESTS};
 use crate::planner::Mark;
@@ -171,7 +171,7 @@ impl Cache {
         if self.closed {
             return (*self, refuse(33, 0));
         }
-        (Cache { closed: true, ..*self }, Ok(self.cost()))
+        (Cache { closed: true, ..*self }, Ok(self.closing_cost()))
     }
 
     /// The running cost, asked for without closing: a closed state is answered too.
@@ -180,6 +180,14 @@ impl Cache {
             return refuse(32, 0);
         }
         Ok(self.cost())
+    }
+
+    /// The running cost and, for each standing copy, the hold price for what is left of its window at the last request's second: the
+    /// last server's copy was used then.
+    fn closing_cost(&self) -> u64 {
+        let now = self.second as u64;
+        let left: u64 = (0..64).filter(|&server| self.has(server)).map(|server| self.end(server) - now).sum();
+        self.cost() + Prices::of(self.class).hold * left
     }
 
     /// The running cost, of a state with a class from 0 to 7.
@@ -196,6 +204,16 @@ pub struct History {
     pub transfers: u32,
     pub held: u32,
     pub standing: u64,
+    /// the seconds that the copies which stand are still held when no request follows
+    pub left: u64,
+}
+
+impl History {
+    /// Everything held and sent, to the end of the last window.
+    pub fn closing_cost(&self, class: u8) -> u64 {
+        let prices = Prices::of(class);
+        prices.hold * (self.held as u64 + self.left) + prices.transfer * self.transfers as u64
+    }
 }
 
 pub fn history(class: u8, home: u8, requests: &[Request]) -> History {
@@ -204,7 +222,7 @@ pub fn history(class: u8, home: u8, requests: &[Request]) -> History {
     let mut uses: Vec<Option<u64>> = vec![None; 64];
     uses[home as usize] = Some(0);
     let mut last = home as usize;
-    let mut history = History { marks: vec![], transfers: 0, held: 0, standing: 0 };
+    let mut history = History { marks: vec![], transfers: 0, held: 0, standing: 0, left: 0 };
     let mut second = 0u64;
     for request in requests {
         let server = request.server as usize;
@@ -231,6 +249,7 @@ pub fn history(class: u8, home: u8, requests: &[Request]) -> History {
         last = server;
     }
     history.standing = (0..64).filter(|&server| uses[server].is_some()).map(|server| 1 << server).sum();
+    history.left = uses.iter().flatten().map(|used| used + window - second).sum();
     history
 }
 
@@ -264,11 +283,14 @@ mod tests {
                 cache = next;
             }
             let history = history(header.class, header.home, &requests);
-            let state = History { marks, transfers: cache.transfers, held: cache.held, standing: cache.holders };
+            let closing = cache.close().1.unwrap();
+            assert_eq!(closing, history.closing_cost(header.class), "{header:?} {requests:?}");
+            let state = History { marks, transfers: cache.transfers, held: cache.held, standing: cache.holders, left: history.left };
             assert_eq!(state, history, "{header:?} {requests:?}");
             let least = planner::plan(&Log { header, requests }).cost;
             let running = cache.running().unwrap();
             assert!(least <= running && running <= 3 * least);
+            assert!(running <= closing && closing <= 3 * least + Prices::of(header.class).transfer);
         }
     }
 
@@ -286,10 +308,10 @@ mod tests {
         assert_eq!(ZEROS.close(), (ZEROS, refuse(32, 0)));
         assert_eq!(ZEROS.running(), refuse(32, 0));
         let (closed, cost) = cache.close();
-        assert_eq!((closed, cost), (Cache { closed: true, ..cache }, Ok(0)));
+        assert_eq!((closed, cost), (Cache { closed: true, ..cache }, Ok(10)));
         assert_eq!(closed.scan(1, 1), (closed, refuse(33, 0)));
         assert_eq!(closed.close(), (closed, refuse(33, 0)));
-        assert_eq!(closed.running(), cost);
+        assert_eq!(closed.running(), Ok(0));
         let full = Cache { requests: 2048, ..cache };
         assert_eq!(full.scan(1, 1), (full, refuse(34, 0)));
         assert!(full.close().1.is_ok());

@@ -1,4 +1,4 @@
-//! 01, 'The sheet': what the program prints for any input.
+//! 01, 'The sheet', with the last line of 02's request 02: what the program prints for any input.
 
 use crate::log::{self, Log};
 use crate::online;
@@ -21,7 +21,7 @@ pub fn sheet(log: &Log) -> String {
         let (number, second, server) = (i + 1, request.second, request.server);
         text += &format!("{number} {second} {server} {mark} {live} {} {}\n", least[i + 1], served.running);
     }
-    text + &format!("rows {}\n", plan.rows.len())
+    text + &format!("rows {}\nclose {}\n", plan.rows.len(), cache.close().1.unwrap())
 }
 
 /// The one line of a refusal.

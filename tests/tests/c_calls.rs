@@ -30,7 +30,7 @@ running: 50
 scan: 0 0 1 1
 running: 62
 running: 0 0 62 0
-close: 0 0 62 0
+close: 0 0 82 0
 close again: 33 0 0 0
 running still: 0 0 62 0
 ";

@@ -29,3 +29,13 @@ fn made_up_states() {
 fn full() {
     online::full::<Library>(14);
 }
+
+#[test]
+fn dearest() {
+    online::dearest::<Library>();
+}
+
+#[test]
+fn each_age() {
+    online::each_age::<Library>();
+}

@@ -1,5 +1,6 @@
 //! The program `sheet`, run as a user would run it, compared with the simple version: target/bin/sheet of this repository.
 
+use reference::compare::weeks::log_of;
 use reference::log::{Header, Log, Request};
 use reference::random::{damaged_log, random_log, Random};
 use reference::sheet::printed;
@@ -80,6 +81,7 @@ scan second station plan live least bill
 3 11 1 K K 31 50
 4 12 0 K S 42 62
 rows 4
+close 82
 ";
 
 #[test]
@@ -89,7 +91,10 @@ fn case_c() {
 
 #[test]
 fn no_request() {
-    assert_eq!(run(&week_c().cut(0).bytes()), "scan second station plan live least bill\nrows 0\n");
+    for (class, closing) in [(0, 10), (2, 24), (6, 0)] {
+        let text = format!("scan second station plan live least bill\nrows 0\nclose {closing}\n");
+        assert_eq!(run(&log_of(class, 3, &[]).bytes()), text);
+    }
 }
 
 /// One line of refusal and nothing else.

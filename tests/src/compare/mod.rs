@@ -119,5 +119,7 @@ mod tests {
         online::random_lists::<Fast>(22, 1_000);
         online::made_up_states::<Fast>(23, 10_000);
         online::full::<Fast>(24);
+        online::dearest::<Fast>();
+        online::each_age::<Fast>();
     }
 }

@@ -15,21 +15,27 @@ enum Call {
     Close,
 }
 
+/// What a call gave that was not refused.
+enum Given {
+    Scanned(Served),
+    Closed(u64),
+}
+
 /// One call on a state, and its running cost, by both; what the call gave, and the state given back.
-fn call<C: Calls>(cache: &Cache, call: Call, met: &mut Met) -> (Cache, Result<Option<Served>, Refusal>) {
+fn call<C: Calls>(cache: &Cache, call: Call, met: &mut Met) -> (Cache, Result<Given, Refusal>) {
     assert_eq!(C::running(cache), Simple::running(cache), "{cache:?}");
     match call {
         Call::Scan(second, server) => {
             let a = Simple::scan(cache, second, server);
             assert_eq!(C::scan(cache, second, server), a, "{cache:?} {call:?}");
             met.count(&a.1);
-            (a.0, a.1.map(Some))
+            (a.0, a.1.map(Given::Scanned))
         }
         Call::Close => {
             let a = Simple::close(cache);
             assert_eq!(C::close(cache), a, "{cache:?} {call:?}");
             met.count(&a.1);
-            (a.0, a.1.map(|_| None))
+            (a.0, a.1.map(Given::Closed))
         }
     }
 }
@@ -75,39 +81,44 @@ struct Run {
     cache: Cache,
     taken: Vec<Request>,
     marks: Vec<Mark>,
-    closed: bool,
+    /// the closing cost that a close gave
+    closing: Option<u64>,
 }
 
 impl Run {
     fn start<C: Calls>(header: Header) -> Run {
         let (cache, ready) = C::start(header.class, header.server_count, header.home);
         assert_eq!(ready, Ok(()));
-        Run { header, cache, taken: vec![], marks: vec![], closed: false }
+        Run { header, cache, taken: vec![], marks: vec![], closing: None }
     }
 
     fn step<C: Calls>(&mut self, next: Call, met: &mut Met) {
         let (cache, outcome) = call::<C>(&self.cache, next, met);
-        let refusal = expected(&self.header, &self.taken, self.closed, next);
-        assert_eq!(outcome.err().map(|refusal| (refusal.number, refusal.place)), refusal.map(|number| (number, 0)), "{next:?}");
+        let refusal = expected(&self.header, &self.taken, self.closing.is_some(), next);
+        let refused = outcome.as_ref().err();
+        assert_eq!(refused.map(|refusal| (refusal.number, refusal.place)), refusal.map(|number| (number, 0)), "{next:?}");
         match (next, outcome) {
-            (Call::Scan(second, server), Ok(served)) => {
+            (Call::Scan(second, server), Ok(Given::Scanned(served))) => {
                 self.taken.push(Request { second, server });
-                self.marks.push(served.unwrap().mark());
+                self.marks.push(served.mark());
             }
-            (Call::Close, Ok(_)) => self.closed = true,
+            (Call::Close, Ok(Given::Closed(cost))) => self.closing = Some(cost),
             _ => assert_eq!(cache, self.cache),
         }
         self.cache = cache;
     }
 
-    /// Demand 3 at the end of a list: counts as the rules give them, and the running cost between least and three times it.
+    /// Demand 3 at the end of a list: counts as the rules give them, and the running cost between least and three times it. The closing
+    /// cost, of the close in the list or of one after it, is between the running cost and three times the least and one transfer.
     fn end<C: Calls>(&self) {
         let Header { class, home, .. } = self.header;
+        let closing = self.closing.unwrap_or_else(|| C::close(&self.cache).1.unwrap());
         assert_eq!(self.cache.requests as usize, self.taken.len());
         if self.taken.last().map_or(0, |request| request.second) <= 3_000 {
             let history = history(class, home, &self.taken);
             assert_eq!((self.cache.transfers, self.cache.held, self.cache.holders), (history.transfers, history.held, history.standing));
             assert_eq!(self.marks, history.marks);
+            assert_eq!(closing, history.closing_cost(class));
         }
         let log = Log { header: self.header, requests: self.taken.clone() };
         let mut file = vec![0; 40 + 6 * self.taken.len()];
@@ -116,6 +127,7 @@ impl Run {
         C::least(&file, &mut costs).unwrap();
         let (least, running) = (costs[self.taken.len()], C::running(&self.cache).unwrap());
         assert!(least <= running && running <= 3 * least, "{log:?} {least} {running}");
+        assert!(running <= closing && closing <= 3 * least + Prices::of(class).transfer, "{log:?} {least} {running} {closing}");
     }
 }
 
@@ -291,4 +303,53 @@ pub fn full<C: Calls>(seed: u64) {
     assert!(run.cache.held > 200_000_000);
     run.end::<C>();
     met.exactly(&[0, 11, 12, 33, 34], 1);
+}
+
+/// Closes of the states with the largest closing costs: 64 copies with a whole window left, all seconds held and transfers that 32 lets pass. No
+/// copy costs more than a transfer, so none is dearer than what 256,000,000 seconds and 2,112 transfers cost; five classes reach that.
+pub fn dearest<C: Calls>() {
+    let mut met = Met::default();
+    let mut costs = vec![];
+    for class in 0..8 {
+        let second = LAST_SECOND;
+        let most = Cache {
+            class,
+            server_count: 64,
+            last: 63,
+            second,
+            last_use: [second; 64],
+            holders: u64::MAX,
+            requests: 2_048,
+            transfers: 2_048,
+            held: MOST_HELD,
+            closed: false,
+        };
+        let prices = Prices::of(class);
+        let (_, closed) = call::<C>(&most, Call::Close, &mut met);
+        let Ok(Given::Closed(cost)) = closed else { panic!("class {class}") };
+        assert!(cost <= 256_000_000 * prices.hold + 2_112 * prices.transfer);
+        assert_eq!(cost == 256_000_000 * prices.hold + 2_112 * prices.transfer, prices.transfer % prices.hold == 0);
+        costs.push(cost);
+        let _ = call::<C>(&Cache { held: MOST_HELD + 1, ..most }, Call::Close, &mut met);
+    }
+    assert_eq!(
+        costs,
+        [256_021_120, 256_052_800, 512_052_736, 768_063_360, 768_211_136, 1_281_267_200, 1_792_010_240, 2_368_000_000]
+    );
+    met.exactly(&[0, 32], 8);
+}
+
+/// A copy at each age up to a window, and at its last second: what is left of it, beside the last server's whole window.
+pub fn each_age<C: Calls>() {
+    for class in 0..7 {
+        let prices = Prices::of(class);
+        for age in 0..=prices.window() {
+            let (fresh, _) = C::start(class, 2, 0);
+            let mut cache = Cache { last: 1, second: 1_000, holders: 3, ..fresh };
+            cache.last_use[0] = 1_000 - age as u32;
+            cache.last_use[1] = 1_000;
+            let left = 2 * prices.window() - age;
+            assert_eq!(C::close(&cache).1, Ok(prices.hold * left), "{class} {age}");
+        }
+    }
 }

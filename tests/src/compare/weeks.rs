@@ -1,7 +1,8 @@
-//! 01's worked weeks, A to I, with the rows of 02's request 03. Week B is 002's running example times ten.
+//! 01's worked weeks, A to I, with the rows of 02's request 03 and the closing costs of its request 02. Week B is 002's running example times ten.
 
 use crate::calls::Calls;
 use crate::log::{Header, Log, Request};
+use crate::online::Cache;
 use crate::planner::letter;
 use crate::{refuse, Refusal};
 
@@ -14,6 +15,7 @@ pub struct Week {
     pub least: &'static [u64],
     /// the last of the running costs so far
     pub running: &'static [u64],
+    pub closing: u64,
     pub marks: Option<&'static str>,
     pub online_marks: Option<&'static str>,
     pub rows: Option<&'static [[u32; 4]]>,
@@ -25,6 +27,7 @@ const A: Week = Week {
     requests: &[],
     least: &[0],
     running: &[0],
+    closing: 10,
     marks: Some(""),
     online_marks: Some(""),
     rows: Some(&[]),
@@ -35,6 +38,7 @@ const B: Week = Week {
     requests: &[(5, 1), (8, 2), (11, 3), (14, 0), (26, 1), (32, 1), (40, 2)],
     least: &[15, 28, 41, 44, 65, 71, 89],
     running: &[15, 31, 50, 62, 102, 114, 136],
+    closing: 156,
     marks: None,
     online_marks: None,
     rows: Some(&[[0, 0, 0, 14], [0, 1, 5, 40], [1, 0, 1, 5], [1, 1, 2, 8], [1, 1, 3, 11], [1, 1, 2, 40]]),
@@ -46,6 +50,7 @@ const C: Week = Week {
     requests: &[(1, 1), (2, 2), (11, 1), (12, 0)],
     least: &[11, 22, 31, 42],
     running: &[11, 23, 50, 62],
+    closing: 82,
     marks: Some("SSKK"),
     online_marks: Some("SSKS"),
     rows: Some(&[[0, 0, 0, 12], [0, 1, 1, 11], [1, 0, 1, 1], [1, 1, 2, 2]]),
@@ -56,6 +61,7 @@ const D: Week = Week {
     requests: &[(1, 1), (11, 0)],
     least: &[21],
     running: &[31],
+    closing: 41,
     marks: None,
     online_marks: Some("SK"),
     rows: None,
@@ -66,6 +72,7 @@ const E: Week = Week {
     requests: &[(1, 1), (12, 0)],
     least: &[22],
     running: &[42],
+    closing: 62,
     marks: None,
     online_marks: Some("SS"),
     rows: None,
@@ -77,6 +84,7 @@ const F: Week = Week {
     requests: &[(1, 1), (2, 0)],
     least: &[19],
     running: &[24],
+    closing: 24,
     marks: None,
     online_marks: None,
     rows: None,
@@ -121,9 +129,9 @@ impl Week {
             marks.push(letter(served.mark()) as char);
             running.push(served.running);
             assert_eq!(C::running(&next), Ok(served.running));
-            assert_eq!(C::close(&next).1, Ok(served.running));
             cache = next;
         }
+        assert_eq!(C::close(&cache), (Cache { closed: true, ..cache }, Ok(self.closing)));
         assert!(running.ends_with(self.running), "{running:?}");
         if let Some(expected) = self.online_marks {
             assert_eq!(marks, expected);

@@ -76,5 +76,13 @@ pub fn close(cache: &mut Cache) -> Result<u64, Refusal> {
         return refuse(33, 0);
     }
     cache.closed = true;
-    Ok(cache.cost())
+    let prices = Prices::of(cache.class);
+    let mut left = 0;
+    let mut copies = cache.holders;
+    while copies != 0 {
+        let at = copies.trailing_zeros() as usize;
+        copies &= copies - 1;
+        left += cache.last_use[at] as u64 + prices.window() - cache.second as u64;
+    }
+    Ok(cache.cost() + prices.hold * left)
 }
