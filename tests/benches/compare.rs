@@ -18,7 +18,7 @@ use std::hint::black_box;
 
 const REQUESTS: [usize; 4] = [0, 64, 512, 2_048];
 const SERVERS: [u8; 3] = [1, 8, 64];
-const CALLS: [&str; 9] = ["plan", "least", "check", "read", "write", "scan", "scan in place", "sum", "sum by bytes"];
+const CALLS: [&str; 10] = ["plan", "least", "check", "read", "write", "scan", "scan in place", "close", "sum", "sum by bytes"];
 const ROWS: [u32; 3] = [4_096, 100_000, 1_000_000];
 const PROCESSES: usize = 6;
 const ROUNDS: usize = 2;
@@ -285,6 +285,11 @@ fn measure(call: &str, case: &Case) -> Times {
             assert_eq!(answers_a, answers_b);
             times(&mut || used(online::<Library>(black_box(log), used)), &mut || used(online_in_place(black_box(log), used)))
         }
+        "close" => {
+            let cache = online::<Library>(log, used);
+            assert_eq!(Library::close(&cache), Fast::close(&cache));
+            times(&mut || used(Library::close(black_box(&cache))), &mut || used(Fast::close(black_box(&cache))))
+        }
         _ => unreachable!(),
     }
 }
@@ -459,7 +464,7 @@ fn show_summary(lines: &[Line]) {
 fn show_calls(lines: &[Line]) {
     println!("\n## Times of one call\n");
     println!("`scan` is a start and then a scan for each request, the state going in and coming back by value in both; `scan in place`");
-    println!("has Rust change its state where it is. Rust's `sum` takes four bytes at a time, its `sum by bytes` one.");
+    println!("has Rust change its state where it is; `close` closes the state after them all. Rust's `sum` takes four bytes at a time, its `sum by bytes` one.");
     println!("Outputs are just as long as needed. Growth is against the line above. The last column is the ratio in each of {PROCESSES} processes.\n");
     println!("| call | servers | requests | library | growth | Rust | growth | library / Rust | range |");
     println!("|---|---:|---:|---:|---:|---:|---:|---:|---:|");

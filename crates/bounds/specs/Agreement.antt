@@ -1,7 +1,7 @@
 -- One request keeps a state in agreement with the history: the same mark, the same last use at each server, the same seconds held, and as much left.
 use mathlib.Core.Bool.{Bool, true, false}
 use mathlib.Core.Logic.{_⊎_, inl, inr, _≢_}
-use mathlib.Core.Option.{Option, none, some}
+use mathlib.Core.Option.{some}
 use mathlib.Core.Path.{_≡_, refl, sym, ap, _∙_}
 use native.Mathlib.Omega.{arith}
 use Prim.Native.Nat.{ℕ, suc, _+_, _≤_, _<_}
@@ -13,7 +13,7 @@ use Rattle.model.specs.Marking.{Mark, K, S, keeps}
 use Rattle.online.specs.declared.Cache.{Cache}
 use Rattle.online.specs.ServerLaws.{across-same, has-set}
 use Rattle.online.specs.Rules.{class-prices, window-of, copy-at, use-at, lasts, kept, uses, stands, next-use, seconds, accept, remaining}
-use Rattle.online.specs.Widths.{remaining-none, remaining-at}
+use Rattle.online.specs.ClosingLaws.{remaining-none, remaining-at}
 use Rattle.bounds.specs.History.{last-use, mark, held, transfers}
 use Rattle.bounds.specs.History as history
 use Rattle.bounds.specs.HistoryLaws.{Turn, target, source, other, turn, Marked, again, back, sent, marked, transfers-S, transfers-K}

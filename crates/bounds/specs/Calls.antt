@@ -3,7 +3,7 @@ use mathlib.Core.List.{List, [], _∷_, _++_, map}
 use mathlib.Core.Path.{_≡_}
 use Prim.Native.Nat.{ℕ}
 use Rattle.base.specs.declared.Verdict.{Verdict}
-use Rattle.base.specs.declared.Verdict.the-variants.{Passed, Refused}
+use Rattle.base.specs.declared.Verdict.the-variants.{Passed}
 use Rattle.model.specs.Requests.{Requests, requests}
 use Rattle.online.specs.declared.Cache.{Cache}
 use Rattle.online.specs.Answers.{scan-verdict, close-verdict, scanned, closed-answer}

@@ -16,7 +16,7 @@ use Rattle.online.specs.declared.Cache.{Cache}
 use Rattle.online.specs.Servers.{across}
 use Rattle.online.specs.ServerLaws.{across-same}
 use Rattle.online.specs.Rules.{class-prices, fresh, running, remaining, closing}
-use Rattle.online.specs.Widths.{closing-more}
+use Rattle.online.specs.ClosingLaws.{closing-more}
 use Rattle.online.specs.Intact.{intact-unbroken}
 use Rattle.bounds.specs.Calls.{Call, run, requests-of}
 use Rattle.bounds.specs.Progress.{begun, taken, progress}

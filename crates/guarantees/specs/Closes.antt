@@ -14,7 +14,7 @@ use Rattle.online.specs.declared.CloseOutcome.the-variants as close′
 use Rattle.online.specs.Rules.{class-prices, window-of, copy-at, use-at, running, remaining, closing, shut}
 use Rattle.online.specs.Answers.{start-verdict, close-verdict, started-by, started, closed-by, closed-answer}
 use Rattle.online.specs.Passed.{start-passed, close-passed}
-use Rattle.online.specs.Widths.{remaining-at, remaining-most, closing-more, closing-most}
+use Rattle.online.specs.ClosingLaws.{remaining-at, remaining-most, closing-more, closing-most}
 use Rattle.bounds.specs.Calls.{Call, verdict, run, Taken-close}
 use Rattle.bounds.specs.CloseLaws.{close-once}
 use Rattle.bounds.specs.Claim.{Claim, prices, final}

@@ -12,6 +12,7 @@ pub mod StartLaws
 pub mod Walk
 pub mod Intact
 pub mod Widths
+pub mod ClosingLaws
 pub mod Passed
 pub mod Untouched
 pub mod Looked

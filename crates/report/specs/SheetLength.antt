@@ -13,7 +13,8 @@ use Rattle.model.specs.PlanLaws.{plan-best}
 use Rattle.planner.specs.Answers.{planned-rows, least-costs}
 use Rattle.planner.specs.Fits.{best-small}
 use Rattle.planner.specs.LoadedLaws.{log-fits}
-use Rattle.online.specs.Widths.{running-fits, closing-fits}
+use Rattle.online.specs.Widths.{running-fits}
+use Rattle.online.specs.ClosingLaws.{closing-fits}
 use Rattle.report.specs.declared.Entry.{Entry}
 use Rattle.report.specs.Live.{live-cost, opened, running-costs, closing-cost}
 use Rattle.report.specs.LiveLaws.{intact-after}

@@ -8,7 +8,7 @@ use Rattle.base.specs.SetLaws.{members-cut}
 use Rattle.online.specs.Servers.{across}
 use Rattle.online.specs.Rules.{window-of, copy-at, use-at, remaining}
 use Rattle.online.specs.Walk.{given, sum-first, sum-next, sum-last, sum-most}
-use Rattle.online.specs.Widths.{remaining-none, remaining-most}
+use Rattle.online.specs.ClosingLaws.{remaining-none, remaining-most}
 use Rattle.online.proofs.close.all_remaining.Statement.{statement}
 use Rattle.online.proofs.close.all_remaining.Tie as tie
 

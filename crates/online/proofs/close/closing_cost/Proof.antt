@@ -1,12 +1,11 @@
 -- `online::close::closing_cost` meets its contract. Assumes nothing.
 use borrow.Author.Needs.{needs}
-use mathlib.Core.Path.{_≡_, ap, ap₂, _∙_}
+use mathlib.Core.Path.{ap, ap₂, _∙_}
 use native.Mathlib.Omega.{arith}
 use Prim.Native.Nat.{ℕ, _*_}
 use Rattle.prices.specs.declared.Prices.{Prices}
-use Rattle.online.specs.Servers.{across}
-use Rattle.online.specs.Rules.{class-prices, remaining, closing}
-use Rattle.online.specs.Widths.{closing-fits}
+use Rattle.online.specs.Rules.{class-prices, closing}
+use Rattle.online.specs.ClosingLaws.{closing-fits}
 use Rattle.online.proofs.close.closing_cost.Statement.{statement}
 use Rattle.online.proofs.close.closing_cost.Tie as tie
 

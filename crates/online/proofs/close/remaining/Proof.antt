@@ -4,7 +4,7 @@ use mathlib.Core.Bool.{true, false}
 use mathlib.Core.Path.{_≡_, sym}
 use native.Mathlib.Omega.{arith}
 use Rattle.online.specs.Rules.{copy-at}
-use Rattle.online.specs.Widths.{remaining-none, remaining-at}
+use Rattle.online.specs.ClosingLaws.{remaining-none, remaining-at}
 use Rattle.online.proofs.close.remaining.Statement.{statement}
 use Rattle.online.proofs.close.remaining.Tie as tie
 

@@ -1,8 +1,5 @@
 -- `report::live::closing` meets its contract. Assumes nothing.
 use borrow.Author.Needs.{needs}
-use mathlib.Core.Path.{_≡_, sym, ap, _∙_}
-use Rattle.online.specs.declared.CloseOutcome.{CloseOutcome}
-use Rattle.online.specs.declared.Closed.{Closed}
 use Rattle.report.specs.Replies.{close-cost}
 use Rattle.report.proofs.live.closing.Statement.{statement}
 use Rattle.report.proofs.live.closing.Tie as tie
