@@ -113,7 +113,8 @@ accept c τ x =
 unfoldable pub running : Cache → ℕ
 running c = class-prices c .hold * c .held + class-prices c .transfer * c .transfers
 
--- what is left of the window of a copy at y when the last request has been served: its last use plus the window, less the last second
+-- what is left of the window of the copy at y when the last request has been served: its last use plus the window, less the last second; 0 where no
+-- copy stands
 unfoldable pub remaining : Cache → ℕ → ℕ
 remaining c y = pick (copy-at c y) (use-at c y + window-of c - c .second) 0
 
