@@ -44,7 +44,7 @@ close-answers c e =
       at-its-end = λ y a z. omega (arith, remaining-at c y a);
       none-longer = remaining-most c s;
       no-less = closing-more c;
-      most = closing-most c s;
+      most = omega (arith, closing-most c s);
     }
 
 -- a close that is not refused, after a list of calls
