@@ -7,7 +7,7 @@ use crate::online::{history, Cache, Served, MOST_HELD};
 use crate::planner::Mark;
 use crate::prices::Prices;
 use crate::random::{random_gap, random_header, Random};
-use crate::Refusal;
+use crate::{refuse, Refusal};
 
 #[derive(Clone, Copy, Debug)]
 enum Call {
@@ -339,17 +339,20 @@ pub fn dearest<C: Calls>() {
     met.exactly(&[0, 32], 8);
 }
 
-/// A copy at each age up to a window, and at its last second: what is left of it, beside the last server's whole window.
+/// A copy at each age up to a window, in class 7 about its bounds: what is left of it, beside the last server's whole window.
 pub fn each_age<C: Calls>() {
-    for class in 0..7 {
+    for class in 0..8 {
         let prices = Prices::of(class);
-        for age in 0..=prices.window() {
+        let window = prices.window();
+        let ages: Vec<u64> = if class == 7 { vec![0, 1, window - 1, window] } else { (0..=window).collect() };
+        for age in ages {
             let (fresh, _) = C::start(class, 2, 0);
-            let mut cache = Cache { last: 1, second: 1_000, holders: 3, ..fresh };
-            cache.last_use[0] = 1_000 - age as u32;
-            cache.last_use[1] = 1_000;
-            let left = 2 * prices.window() - age;
-            assert_eq!(C::close(&cache).1, Ok(prices.hold * left), "{class} {age}");
+            let mut cache = Cache { last: 1, second: LAST_SECOND, holders: 3, ..fresh };
+            cache.last_use[0] = LAST_SECOND - age as u32;
+            cache.last_use[1] = LAST_SECOND;
+            assert_eq!(C::close(&cache).1, Ok(prices.hold * (window - age + window)), "{class} {age}");
+            cache.last_use[0] = LAST_SECOND - window as u32 - 1;
+            assert_eq!(C::close(&cache), (cache, refuse(32, 0)), "{class}");
         }
     }
 }
