@@ -9,7 +9,7 @@ use Rattle.base.specs.declared.Refusal.{Refusal}
 use Rattle.base.specs.declared.Verdict.{Verdict}
 use Rattle.base.specs.declared.Verdict.the-variants.{Passed, Refused}
 use Rattle.base.specs.Choice.{le-or-lt, not-both}
-use Rattle.base.specs.Refusals.{Condition, reason, first, or-else, from, each, nth, First}
+use Rattle.base.specs.Refusals.{Condition, reason, first, or-else, from, otherwise, each, nth, First}
 
 -- where a list's first condition holds, it refuses
 pub first-met : (c : Condition) (cs : List Condition) → c .holds ≡ true → first (c ∷ cs) ≡ Refused (reason c)
@@ -57,11 +57,6 @@ from-append v (x ∷ xs) ys = from-append (or-else v x) xs ys
 
 -- ---- lists joined
 
--- the first verdict where it refuses, else the second
-abbrev pub otherwise : Verdict → Verdict → Verdict
-otherwise Passed w = w
-otherwise (Refused r) w = Refused r
-
 -- refused by the first part, else what the second part gives
 pub first-append : (xs ys : List Condition) → first (xs ++ ys) ≡ otherwise (first xs) (first ys)
 unfolding first
@@ -72,6 +67,16 @@ first-append (x ∷ xs) ys = go (x .holds) refl (first-append xs ys)
         → first (x ∷ (xs ++ ys)) ≡ otherwise (first (x ∷ xs)) (first ys)
     go true h e = rw (h, first)
     go false h e = rw (h, first) e
+
+-- the chain goes on from a refusal with that, from Passed with what the list gives
+pub from-otherwise : (v : Verdict) (cs : List Condition) → from v cs ≡ otherwise v (first cs)
+from-otherwise Passed cs = from-first cs
+from-otherwise (Refused r) cs = from-stays r cs
+
+-- three verdicts
+pub otherwise-assoc : (u v w : Verdict) → otherwise u (otherwise v w) ≡ otherwise (otherwise u v) w
+otherwise-assoc Passed v w = refl
+otherwise-assoc (Refused r) v w = refl
 
 -- both verdicts passed where neither shows
 pub otherwise-passed : (v w : Verdict) → otherwise v w ≡ Passed → (v ≡ Passed) × (w ≡ Passed)

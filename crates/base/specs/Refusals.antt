@@ -39,6 +39,11 @@ unfoldable pub from : Verdict → List Condition → Verdict
 from v [] = v
 from v (c ∷ cs) = from (or-else v c) cs
 
+-- the first verdict where it refuses, else the second
+abbrev pub otherwise : Verdict → Verdict → Verdict
+otherwise Passed w = w
+otherwise (Refused r) w = Refused r
+
 -- 31: a lent output of a given length is too short for what is needed
 abbrev pub short : ℕ → ℕ → Condition
 short needed length = refuse 31 needed (ltb length needed)

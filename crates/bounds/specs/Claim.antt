@@ -8,7 +8,7 @@ use lib.ListN.{length}
 use Rattle.base.specs.declared.Refusal.{Refusal}
 use Rattle.base.specs.declared.Verdict.the-variants.{Refused}
 use Rattle.prices.specs.declared.Prices.{Prices}
-use Rattle.prices.specs.Prices.{prices-of, window}
+use Rattle.prices.specs.Prices.{classes, prices-of, window}
 use Rattle.log.specs.declared.Setup.{Setup}
 use Rattle.model.specs.Requests.{Requests, Rising, Within}
 use Rattle.model.specs.Plan.{plan-cost}
@@ -25,7 +25,7 @@ use Rattle.bounds.specs.History as history
 module _ (s : Setup) (first : Cache) (calls : List Call) where
   -- the prices of the class
   abbrev pub prices : Prices
-  prices = prices-of (s .«class»)
+  prices = prices-of classes (s .«class»)
 
   -- the state last given back
   abbrev pub final : Cache

@@ -4,10 +4,9 @@ use mathlib.Core.Path.{_≡_, refl, ap, ap₂, _∙_}
 use native.Mathlib.Omega.{arith}
 use Prim.Native.Nat.{ℕ, _+_, _*_, _≤_}
 use Rattle.prices.specs.declared.Prices.{Prices}
-use Rattle.prices.specs.Prices.{prices-of, window}
-use Rattle.prices.specs.PriceLaws.{class-in-range}
+use Rattle.prices.specs.Prices.{classes, prices-of, window}
+use Rattle.prices.specs.PriceLaws.{classes-ranged}
 use Rattle.log.specs.declared.Setup.{Setup}
-use Rattle.log.specs.Ranges.{Allowed}
 use Rattle.model.specs.Requests.{Requests, requests, Within}
 use Rattle.model.specs.Plan.{plan-cost}
 use Rattle.model.specs.PlanLaws.{plan-best}
@@ -18,6 +17,7 @@ use Rattle.online.specs.ServerLaws.{across-same}
 use Rattle.online.specs.Rules.{class-prices, fresh, running, remaining, closing}
 use Rattle.online.specs.ClosingLaws.{closing-more}
 use Rattle.online.specs.Intact.{intact-unbroken}
+use Rattle.online.specs.Passed.{Startable}
 use Rattle.bounds.specs.Calls.{Call, run, requests-of}
 use Rattle.bounds.specs.Progress.{begun, taken, progress}
 use Rattle.bounds.specs.ProgressLaws as progress-laws
@@ -31,10 +31,10 @@ use Rattle.bounds.specs.Reached.{reached-fresh, reached-intact}
 use Rattle.bounds.specs.Onward.{Along, Led, onward}
 use Rattle.bounds.specs.Claim.{Claim, served, served-count}
 
-module _ (s : Setup) (k : Allowed s) (calls : List Call) where
+module _ (s : Setup) (k : Startable s) (calls : List Call) where
   -- in short
   abbrev p : Prices
-  p = prices-of (s .«class»)
+  p = prices-of classes (s .«class»)
 
   abbrev c : Cache
   c = run (fresh s) calls
@@ -61,18 +61,18 @@ module _ (s : Setup) (k : Allowed s) (calls : List Call) where
   unfolding running class-prices running-cost
   running-is =
       let r = end .reached in
-      ap (λ (x : ℕ). prices-of x .hold * c .held + prices-of x .transfer * c .transfers) (r .class-is)
+      ap (λ (x : ℕ). prices-of classes x .hold * c .held + prices-of classes x .transfer * c .transfers) (r .class-is)
       ∙ ap (λ (x : ℕ). p .hold * x + p .transfer * c .transfers) (r .agrees .held-are)
       ∙ ap (λ (x : ℕ). p .hold * held (window p) q 64 n + p .transfer * x) (r .agrees .transfers-are)
 
   -- holding has a price
   holding : 1 ≤ p .hold
-  holding = class-in-range (s .«class») (omega (arith, k .class-most)) .hold-least
+  holding = classes-ranged (s .«class») (k .0) .hold-least
 
   -- all servers are below 64
   within-64 : Within 64 q n
   unfolding Within
-  within-64 i h = omega (arith, end .reached .within i h, k .servers-most)
+  within-64 i h = omega (arith, end .reached .within i h, k .1 .servers-most)
 
   -- so is the closing cost
   closing-is : closing c ≡ closing-cost p q 64 n
@@ -80,7 +80,7 @@ module _ (s : Setup) (k : Allowed s) (calls : List Call) where
   closing-is =
       let r = end .reached in
       ap₂ (λ (x y : ℕ). x + y) running-is
-      (ap (λ (x : ℕ). prices-of x .hold * across 64 (remaining c)) (r .class-is)
+      (ap (λ (x : ℕ). prices-of classes x .hold * across 64 (remaining c)) (r .class-is)
       ∙ ap (λ (x : ℕ). p .hold * x) (across-same 64 (remaining c) (history.remaining (window p) q n) (remaining-left (window p) q c n (r .agrees))))
 
   -- every list of calls from a fresh state is as claimed
@@ -124,8 +124,8 @@ module _ (s : Setup) (k : Allowed s) (calls : List Call) where
       }
 
 -- the closing cost of a fresh state is the holding of one window
-pub closing-fresh : (s : Setup) → Allowed s → closing (fresh s) ≡ prices-of (s .«class») .hold * window (prices-of (s .«class»))
+pub closing-fresh : (s : Setup) → Startable s → closing (fresh s) ≡ prices-of classes (s .«class») .hold * window (prices-of classes (s .«class»))
 unfolding run taken requests-of requests
 closing-fresh s k =
     closing-is s k []
-    ∙ closing-zero (prices-of (s .«class»)) (requests-of (s .home) []) 64 refl (omega (arith, k .home-below, k .servers-most))
+    ∙ closing-zero (prices-of classes (s .«class»)) (requests-of (s .home) []) 64 refl (omega (arith, k .1 .home-below, k .1 .servers-most))

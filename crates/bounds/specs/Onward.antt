@@ -7,11 +7,11 @@ use lib.ListN.{length}
 use Rattle.base.specs.declared.Verdict.{Verdict}
 use Rattle.base.specs.declared.Verdict.the-variants.{Passed, Refused}
 use Rattle.log.specs.declared.Setup.{Setup}
-use Rattle.log.specs.Ranges.{Allowed}
 use Rattle.model.specs.Requests.{Requests}
 use Rattle.online.specs.declared.Cache.{Cache}
 use Rattle.online.specs.Rules.{accept, shut}
 use Rattle.online.specs.Intact.{intact-unbroken}
+use Rattle.online.specs.Passed.{Startable}
 use Rattle.bounds.specs.Calls.{Call, scan, close, verdict, after, run, verdicts}
 use Rattle.bounds.specs.CallLaws.{after-scan, after-close, after-refused}
 use Rattle.bounds.specs.Progress.{Progress, due, advanced, with-request, dues, taken, progress}
@@ -19,7 +19,7 @@ use Rattle.bounds.specs.ProgressLaws.{In-pace, verdict-due}
 use Rattle.bounds.specs.Follows.{Follows}
 use Rattle.bounds.specs.Reached.{Reached, reached-scan, reached-shut, reached-intact}
 
-module _ (s : Setup) (k : Allowed s) (q : Requests) where
+module _ (s : Setup) (k : Startable s) (q : Requests) where
   abbrev count : ℕ
   count = s .«server_count»
 

@@ -7,8 +7,8 @@ use native.Mathlib.Omega.{arith}
 use Prim.Native.Nat.{ℕ, zero, suc}
 use lib.Dec.{leb, ltb, eqb}
 use Rattle.base.specs.Choice.{either, not-both}
-use Rattle.base.specs.Refusals.{Condition, refuse, first, nth, reason}
-use Rattle.base.specs.RefusalLaws.{otherwise, first-append, first-failed, first-refused}
+use Rattle.base.specs.Refusals.{Condition, refuse, first, nth, reason, otherwise}
+use Rattle.base.specs.RefusalLaws.{first-append, first-failed, first-refused}
 use Rattle.base.specs.declared.Refusal.{Refusal}
 use Rattle.base.specs.declared.Verdict.{Verdict}
 use Rattle.base.specs.declared.Verdict.the-variants.{Passed, Refused}

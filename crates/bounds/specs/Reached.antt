@@ -12,9 +12,8 @@ use Rattle.base.specs.Choice.{same-or-not, not-both}
 use Rattle.base.specs.Lists.{build, build-at}
 use Rattle.base.specs.Sets.{has}
 use Rattle.base.specs.declared.Verdict.the-variants.{Passed}
-use Rattle.prices.specs.Prices.{prices-of, window}
+use Rattle.prices.specs.Prices.{classes, prices-of, window}
 use Rattle.log.specs.declared.Setup.{Setup}
-use Rattle.log.specs.Ranges.{Allowed}
 use Rattle.model.specs.Requests.{Requests, latest, Rising, Within}
 use Rattle.model.specs.RequestLaws.{none-some, latest-some}
 use Rattle.online.specs.declared.Cache.{Cache}
@@ -27,20 +26,20 @@ use Rattle.bounds.specs.Seconds.{held-zero, held-most}
 use Rattle.bounds.specs.Agreement.{Seen, gone, here, Agrees, agrees-next}
 use Rattle.online.specs.Intact.{Intact, Intact-server}
 use Rattle.online.specs.Answers.{scan-verdict}
-use Rattle.online.specs.Passed.{Fit, scan-passed}
+use Rattle.online.specs.Passed.{Startable, Fit, scan-passed}
 
 -- the state after the first i of some requests, of a start that was given s
 pub record Reached (s : Setup) (q : Requests) (c : Cache) (i : ℕ) : Type 0 where
   pub class-is : c .«class» ≡ s .«class»
   pub count-is : c .«server_count» ≡ s .«server_count»
-  pub agrees : Agrees (window (prices-of (s .«class»))) q c i
+  pub agrees : Agrees (window (prices-of classes (s .«class»))) q c i
   pub second-most : q .time i ≤ 4000000
   pub few : i ≤ 2048
   pub rising : Rising q i
   pub within : Within (s .«server_count») q i
 
 -- a start reaches it
-pub reached-fresh : (s : Setup) → Allowed s → (q : Requests) → q .time 0 ≡ 0 → q .server 0 ≡ s .home → Reached s q (fresh s) 0
+pub reached-fresh : (s : Setup) → Startable s → (q : Requests) → q .time 0 ≡ 0 → q .server 0 ≡ s .home → Reached s q (fresh s) 0
 unfolding fresh Within copy-at use-at window-of class-prices
 reached-fresh s k q z e =
     record {
@@ -59,11 +58,11 @@ reached-fresh s k q z e =
       second-most = omega arith;
       few = omega arith;
       rising = record { start = z; rise = λ i h. absurd (omega arith) };
-      within = λ i h. let o : i ≡ 0 = omega arith in rw (o, e) (k .home-below);
+      within = λ i h. let o : i ≡ 0 = omega arith in rw (o, e) (k .1 .home-below);
     }
   where
     W : ℕ
-    W = window (prices-of (s .«class»))
+    W = window (prices-of classes (s .«class»))
 
     at : (y : ℕ) → (y ≡ s .home) ⊎ (y ≢ s .home) → Seen W q (eqb y (s .home)) 0 0 y
     at y (inl d) = here (eq-eqb y (s .home) d) (ap (last-use W q 0) (d ∙ sym e) ∙ use-last W q 0 ∙ ap some z) (omega arith) (omega arith)
@@ -80,7 +79,7 @@ reached-next s q c i r f =
     record {
       class-is = r .class-is;
       count-is = r .count-is;
-      agrees = agrees-next (window (prices-of (s .«class»))) q c i (r .agrees) up (omega (arith, f .counted, f .intact .count-most));
+      agrees = agrees-next (window (prices-of classes (s .«class»))) q c i (r .agrees) up (omega (arith, f .counted, f .intact .count-most));
       second-most = f .second-most;
       few = omega (arith, f .room, r .agrees .requests-are);
       rising = record { start = r .rising .start; rise = λ l h. rise l h (same-or-not l i) };
@@ -128,13 +127,13 @@ reached-shut s q c i r =
     }
 
 -- 32 does not hold of it
-pub reached-intact : (s : Setup) → Allowed s → (q : Requests) (c : Cache) (i : ℕ) → Reached s q c i → Intact c
-unfolding Within
+pub reached-intact : (s : Setup) → Startable s → (q : Requests) (c : Cache) (i : ℕ) → Reached s q c i → Intact c
+unfolding Within classes
 reached-intact s k q c i r =
     record {
-      class-in = omega (arith, r .class-is, k .class-most);
-      count-least = omega (arith, r .count-is, k .servers-least);
-      count-most = omega (arith, r .count-is, k .servers-most);
+      class-in = omega (arith, r .class-is, k .0);
+      count-least = omega (arith, r .count-is, k .1 .servers-least);
+      count-most = omega (arith, r .count-is, k .1 .servers-most);
       second-most = omega (arith, a .second-is, r .second-most);
       last-counted = omega (arith, a .last-is, r .count-is, r .within i (omega arith));
       last-stands = last-seen (a .seen (c .last) last-under) .0;
@@ -146,13 +145,13 @@ reached-intact s k q c i r =
     }
   where
     W : ℕ
-    W = window (prices-of (s .«class»))
+    W = window (prices-of classes (s .«class»))
 
     a : Agrees W q c i
     a = r .agrees
 
     last-under : c .last < 64
-    last-under = omega (arith, a .last-is, r .within i (omega arith), k .servers-most)
+    last-under = omega (arith, a .last-is, r .within i (omega arith), k .1 .servers-most)
 
     used : last-use W q i (c .last) ≡ some (q .time i)
     used = ap (last-use W q i) (a .last-is) ∙ use-last W q i

@@ -8,6 +8,7 @@ use Rattle.base.specs.declared.Verdict.{Verdict}
 use Rattle.base.specs.declared.Verdict.the-variants.{Passed, Refused}
 use Rattle.base.specs.Refusals.{first}
 use Rattle.base.specs.RefusalLaws.{otherwise-passed}
+use Rattle.prices.specs.Tariff.{Tariff}
 use Rattle.log.specs.Fields.{server-count, request-count}
 use Rattle.log.specs.Conditions.{verdict-of}
 use Rattle.log.specs.Conditions as logs
@@ -25,20 +26,20 @@ cost-passed Passed c v e = (refl, let d : v ≡ c = cc in d)
 cost-passed (Refused r) c v e = let z : _≡_ {A = ℕ} 0 1 = cc in absurd (omega arith)
 
 -- it is answered if and only if this holds
-pub answers-cost : (log ns : List ℕ) (v : ℕ) → (check-answer log ns ≡ answer.Cost v) ↔ Answered log ns v
+pub answers-cost : (t : Tariff) (log ns : List ℕ) (v : ℕ) → (check-answer t log ns ≡ answer.Cost v) ↔ Answered t log ns v
 unfolding check-answer checked logs.Accepted
-answers-cost log ns v = (to, from)
+answers-cost t log ns v = (to, from)
   where
-    to : checked (check-verdict-of log ns) (check-cost (prices-in log) ns) ≡ answer.Cost v → Answered log ns v
+    to : checked (check-verdict-of t log ns) (check-cost (prices-in t log) ns) ≡ answer.Cost v → Answered t log ns v
     to e =
-        let (p, c) = cost-passed (check-verdict-of log ns) (check-cost (prices-in log) ns) v e in
-        let (a, r) = otherwise-passed (verdict-of log) (first (schedule-conditions (server-count log) (requests-in log) (request-count log) ns)) (sym (verdict-parts log ns) ∙ p) in
+        let (p, c) = cost-passed (check-verdict-of t log ns) (check-cost (prices-in t log) ns) v e in
+        let (a, r) = otherwise-passed (verdict-of t log) (first (schedule-conditions (server-count log) (requests-in log) (request-count log) ns)) (sym (verdict-parts t log ns) ∙ p) in
         record { log-accepted = a; rows-accepted = accepts-iff (server-count log) (requests-in log) (request-count log) ns .0 r; cost-is = c }
 
-    from : Answered log ns v → checked (check-verdict-of log ns) (check-cost (prices-in log) ns) ≡ answer.Cost v
+    from : Answered t log ns v → checked (check-verdict-of t log ns) (check-cost (prices-in t log) ns) ≡ answer.Cost v
     from h =
         rw (
-          verdict-parts log ns,
+          verdict-parts t log ns,
           h .log-accepted,
           accepts-iff (server-count log) (requests-in log) (request-count log) ns .1 (h .rows-accepted),
           h .cost-is,

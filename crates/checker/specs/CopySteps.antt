@@ -6,8 +6,8 @@ use native.Mathlib.Omega.{arith}
 use Prim.Native.Nat.{ℕ, suc, _+_, _-_, _≤_, _<_}
 use lib.Dec.{ltb, eqb}
 use Rattle.base.specs.Choice.{pick, either, both}
-use Rattle.base.specs.Refusals.{refuse, first, each}
-use Rattle.base.specs.RefusalLaws.{first-append, otherwise}
+use Rattle.base.specs.Refusals.{refuse, first, each, otherwise}
+use Rattle.base.specs.RefusalLaws.{first-append}
 use Rattle.base.specs.Sets.{has}
 use Rattle.model.specs.RowForm.{row-at}
 use Rattle.model.specs.Checking.{row-count}

@@ -6,8 +6,8 @@ use Prim.Native.Nat.{ℕ, _%_}
 use lib.Dec.{eqb}
 use lib.ListN.{length}
 use Rattle.base.specs.declared.Verdict.{Verdict}
-use Rattle.base.specs.Refusals.{Condition, refuse, first, each}
-use Rattle.base.specs.RefusalLaws.{first-append, otherwise}
+use Rattle.base.specs.Refusals.{Condition, refuse, first, each, otherwise}
+use Rattle.base.specs.RefusalLaws.{first-append}
 use Rattle.log.specs.Fields.{server-count, home-of, request-count}
 use Rattle.model.specs.LogRequests.{requests-in}
 use Rattle.model.specs.Checking.{row-count}

@@ -1,4 +1,4 @@
--- For an accepted log the conditions 14 to 18 as the code comes by them refuse what the schedule's conditions refuse.
+-- For a sound log the conditions 14 to 18 as the code comes by them refuse what the schedule's conditions refuse.
 use mathlib.Core.Bool.{true, false, not}
 use mathlib.Core.List.{List, List·Memᴰ}
 use mathlib.Core.Logic.{_⊎_, inl, inr}
@@ -12,11 +12,10 @@ use Rattle.base.specs.declared.Verdict.{Verdict}
 use Rattle.base.specs.declared.Verdict.the-variants.{Passed, Refused}
 use Rattle.base.specs.Choice.{either, true-or-false}
 use Rattle.base.specs.Sets.{has}
-use Rattle.base.specs.Refusals.{Condition, first, each, nth}
-use Rattle.base.specs.RefusalLaws.{first-append, first-passed, each-passed, otherwise}
+use Rattle.base.specs.Refusals.{Condition, first, each, nth, otherwise}
+use Rattle.base.specs.RefusalLaws.{first-append, first-passed, each-passed}
 use Rattle.log.specs.Fields.{server-count, home-of, request-count}
-use Rattle.log.specs.Conditions.{Accepted}
-use Rattle.log.specs.AcceptedLaws.{accepted-sound}
+use Rattle.log.specs.Ranges.{Sound}
 use Rattle.base.specs.ChoiceLaws.{either-false}
 use Rattle.model.specs.Requests.{Requests, requests}
 use Rattle.model.specs.LogRequests.{requests-in}
@@ -81,7 +80,7 @@ module _ (count last : ℕ) (ns : List ℕ) (s : Shaped count last ns) (home : �
         ∙ sym (first-append (each (copy-condition count q ns) holds) (each (λ j. copy-condition count q ns (holds + j)) rest))
         ∙ ap first (sym (each-split (copy-condition count q ns) holds rest) ∙ ap (each (copy-condition count q ns)) all)
 
-module _ (log ns : List ℕ) (a : Accepted log) where
+module _ (log ns : List ℕ) (a : Sound log) where
   -- the log's server count, requests and their number
   abbrev count : ℕ
   count = server-count log
@@ -96,13 +95,13 @@ module _ (log ns : List ℕ) (a : Accepted log) where
   last-early : (k : ℕ) → k ≤ n → q .time k < 4194304
   unfolding requests-in requests
   last-early zero l = omega arith
-  last-early (suc k) l = omega (arith, accepted-sound log a .in-order k l .second-most)
+  last-early (suc k) l = omega (arith, a .in-order k l .second-most)
 
   -- where 15 and 16 pass the rows are well formed
   pub shaped : first (row-part log ns) ≡ Passed → Shaped count (q .time n) ns
   unfolding row-tests misplaced
   shaped e = record {
-    few = accepted-sound log a .setup .servers-most;
+    few = a .setup .servers-most;
     early = last-early n (omega arith);
     fit-at = fit;
     follow-at = λ i l. not-false _ (rw (lt-ltb 0 (suc i) (omega arith)) at (test (suc i) l 1));
@@ -122,13 +121,13 @@ module _ (log ns : List ℕ) (a : Accepted log) where
 
   -- then 17 and 18 are the same
   copies-same : Shaped count (q .time n) ns → first (copy-part log ns) ≡ first (each (copy-condition count q ns) (row-count ns))
-  copies-same s = same-copies count (q .time n) ns s (home-of log) (accepted-sound log a .setup .home-below) q (home-is log)
+  copies-same s = same-copies count (q .time n) ns s (home-of log) (a .setup .home-below) q (home-is log)
 
   serves-same : Shaped count (q .time n) ns → serve-part log ns ≡ each (serve-condition count q ns) n
   unfolding serve-test served serve-condition
   serves-same s =
       each-same (serve-test log ns) (serve-condition count q ns) n
-      (λ i l. rw (stands-is count (q .time n) ns s (home-of log) (accepted-sound log a .setup .home-below), time-read log i l, server-read log i l, home-is log))
+      (λ i l. rw (stands-is count (q .time n) ns s (home-of log) (a .setup .home-below), time-read log i l, server-read log i l, home-is log))
 
   -- the conditions of the copies and of the requests
   abbrev copies : List Condition

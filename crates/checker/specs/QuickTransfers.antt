@@ -9,8 +9,8 @@ use lib.Dec.{ltb}
 use borrow.Author.Tests.{lt-ltb, le-ltb}
 use Rattle.base.specs.Choice.{pick}
 use Rattle.base.specs.Sets.{has}
-use Rattle.base.specs.Refusals.{Condition, refuse, first, each}
-use Rattle.base.specs.RefusalLaws.{each-suc, otherwise}
+use Rattle.base.specs.Refusals.{Condition, refuse, first, each, otherwise}
+use Rattle.base.specs.RefusalLaws.{each-suc}
 use Rattle.model.specs.RowForm.{row-at}
 use Rattle.model.specs.Checking.{row-count}
 use Rattle.checker.specs.Reading.{server-of, second-of}

@@ -1,6 +1,9 @@
 // The cost of a schedule, and the checker's answer.
 ghost use mathlib.Core.Path.{_≡_};
 ghost use Prim.Native.Nat.{_+_, _*_, _^_, _<_, _≤_};
+ghost use Rattle.prices.specs.PriceFile.{table-in};
+ghost use Rattle.prices.specs.PriceLaws.{Priced};
+ghost use Rattle.prices.specs.Tariff.{tariff, built-in, price-file};
 ghost use Rattle.model.specs.Sums.{total};
 ghost use Rattle.model.specs.Schedule.{length-of, is-transfer};
 ghost use Rattle.model.specs.RowForm.{rows-of};
@@ -16,6 +19,8 @@ use base::bytes::at;
 use base::widths::u64_from_u32;
 use log::verdict;
 use prices::Prices;
+use prices::built_in;
+use prices::file_fault;
 use prices::of_class;
 
 // The seconds held, and the number of transfers.
@@ -85,11 +90,12 @@ fn cost(p: Prices, ns: &[u32]) -> u64
     u64_from_u32(p.hold) * s.seconds + u64_from_u32(p.transfer) * s.transfers
 }
 
-// The cost of a schedule for a log, or the first condition that refuses the log or the schedule.
-pub fn check(log: &[u8], rows: &[u32]) -> Checked
-    ensures { λ r. ⌜ r ≡ check-answer (now (log .entry)) (now (rows .entry)) ⌝ }
+// The cost of a schedule for a log by a price file and what that was answered, or the first condition that refuses file, log or schedule.
+fn check_by(v: Verdict, prices: &[u8], log: &[u8], rows: &[u32]) -> Checked
+    requires { ⌜ Priced (tariff v (table-in (now prices))) ⌝ }
+    ensures { λ r. ⌜ r ≡ check-answer (tariff v (table-in (now (prices .entry)))) (now (log .entry)) (now (rows .entry)) ⌝ }
 {
-    let v = verdict(log);
+    let v = verdict(v, prices, log);
     if let Verdict::Refused(r) = v {
         return Checked::Refused(r);
     }
@@ -97,5 +103,20 @@ pub fn check(log: &[u8], rows: &[u32]) -> Checked
     if let Verdict::Refused(r) = v {
         return Checked::Refused(r);
     }
-    Checked::Cost(cost(of_class(at(log, 2)), rows))
+    Checked::Cost(cost(of_class(prices, at(log, 2)), rows))
+}
+
+// The same by the built-in table.
+pub fn check(log: &[u8], rows: &[u32]) -> Checked
+    ensures { λ r. ⌜ r ≡ check-answer built-in (now (log .entry)) (now (rows .entry)) ⌝ }
+{
+    let prices = built_in();
+    check_by(Verdict::Passed, &prices, log, rows)
+}
+
+// The same by a price file.
+pub fn check_with(prices: &[u8], log: &[u8], rows: &[u32]) -> Checked
+    ensures { λ r. ⌜ r ≡ check-answer (price-file (now (prices .entry))) (now (log .entry)) (now (rows .entry)) ⌝ }
+{
+    check_by(file_fault(prices), prices, log, rows)
 }

@@ -5,7 +5,7 @@ ghost use Prim.Native.Nat.{_<_};
 ghost use lib.Dec.{ltb, eqb};
 ghost use Rattle.base.specs.Choice.{either};
 ghost use Rattle.base.specs.Refusals.{first, each};
-ghost use Rattle.log.specs.Conditions.{Accepted};
+ghost use Rattle.log.specs.Ranges.{Sound};
 ghost use Rattle.log.specs.Fields.{request-count};
 ghost use Rattle.model.specs.RowForm.{fits};
 ghost use Rattle.model.specs.LogRequests.{requests-in};
@@ -143,7 +143,7 @@ fn last_second(log: &[u8]) -> u32
 
 // What the numbers of a schedule are answered, for a log.
 pub(crate) fn schedule_fault(log: &[u8], ns: &[u32]) -> Verdict
-    requires { ⌜ Accepted (now log) ⌝ }
+    requires { ⌜ Sound (now log) ⌝ }
     ensures { λ r. ⌜ r ≡ first (schedule-tests (now (log .entry)) (now (ns .entry))) ⌝ }
 {
     if ns.len() % 4 != 0 {

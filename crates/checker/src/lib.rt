@@ -9,6 +9,7 @@ mod standing;
 
 use base::Refusal;
 pub use checking::check;
+pub use checking::check_with;
 
 // The cost of a feasible schedule, or why it is refused.
 pub enum Checked {

@@ -1,6 +1,7 @@
 // Sum, reader and writer.
 ghost use mathlib.Core.Path.{_≡_};
 ghost use lib.ListN.{length};
+ghost use Rattle.prices.specs.Tariff.{built-in};
 ghost use Rattle.log.specs.Sum.{sum-of};
 ghost use Rattle.log.specs.Contents.{contents};
 ghost use Rattle.log.specs.Answers.{read-verdict, decoded, seconds-left, servers-left, write-verdict, written, log-left};
@@ -38,9 +39,9 @@ fn of_read(outcome: ReadOutcome) -> Answer
 
 #[no_mangle]
 pub extern "C" fn caching_read(log: &[u8], seconds: &mut [u32], servers: &mut [u16]) -> ReadAnswer
-    ensures { λ r. ⌜ r ≡ read-answer (decoded (read-verdict (now (log .entry)) (length (now (seconds .entry))) (length (now (servers .entry)))) (now (log .entry))) ⌝ }
-    ensures { λ _. ⌜ now (seconds .exit) ≡ seconds-left (now (log .entry)) (now (seconds .entry)) (now (servers .entry)) ⌝ }
-    ensures { λ _. ⌜ now (servers .exit) ≡ servers-left (now (log .entry)) (now (seconds .entry)) (now (servers .entry)) ⌝ }
+    ensures { λ r. ⌜ r ≡ read-answer (decoded (read-verdict built-in (now (log .entry)) (length (now (seconds .entry))) (length (now (servers .entry)))) (now (log .entry))) ⌝ }
+    ensures { λ _. ⌜ now (seconds .exit) ≡ seconds-left built-in (now (log .entry)) (now (seconds .entry)) (now (servers .entry)) ⌝ }
+    ensures { λ _. ⌜ now (servers .exit) ≡ servers-left built-in (now (log .entry)) (now (seconds .entry)) (now (servers .entry)) ⌝ }
 {
     let d = log::read(log, seconds, servers);
     let header = d.header;
@@ -68,8 +69,8 @@ pub extern "C" fn caching_write(
     servers: &[u16],
     log: &mut [u8],
 ) -> Answer
-    ensures { λ r. ⌜ r ≡ of-write (written (write-verdict (contents header (now (seconds .entry)) (now (servers .entry))) (length (now (log .entry)))) (contents header (now (seconds .entry)) (now (servers .entry)))) ⌝ }
-    ensures { λ _. ⌜ now (log .exit) ≡ log-left (contents header (now (seconds .entry)) (now (servers .entry))) (now (log .entry)) ⌝ }
+    ensures { λ r. ⌜ r ≡ of-write (written (write-verdict built-in (contents header (now (seconds .entry)) (now (servers .entry))) (length (now (log .entry)))) (contents header (now (seconds .entry)) (now (servers .entry)))) ⌝ }
+    ensures { λ _. ⌜ now (log .exit) ≡ log-left built-in (contents header (now (seconds .entry)) (now (servers .entry))) (now (log .entry)) ⌝ }
 {
     of_write(log::write(header, seconds, servers, log))
 }

@@ -1,6 +1,7 @@
 // Checker, planner and least costs.
 ghost use mathlib.Core.Path.{_≡_};
 ghost use lib.ListN.{length};
+ghost use Rattle.prices.specs.Tariff.{built-in};
 ghost use Rattle.checker.specs.Answers.{check-answer};
 ghost use Rattle.planner.specs.Answers.{plan-verdict, planned, marks-left, rows-left, least-verdict, least-answer, costs-left};
 ghost use Rattle.exports.specs.Answers.{of-check, of-plan, of-least};
@@ -24,7 +25,7 @@ fn of_check(outcome: Checked) -> Answer
 // The answer's value is the cost.
 #[no_mangle]
 pub extern "C" fn caching_check(log: &[u8], rows: &[u32]) -> Answer
-    ensures { λ r. ⌜ r ≡ of-check (check-answer (now (log .entry)) (now (rows .entry))) ⌝ }
+    ensures { λ r. ⌜ r ≡ of-check (check-answer built-in (now (log .entry)) (now (rows .entry))) ⌝ }
 {
     of_check(checker::check(log, rows))
 }
@@ -41,9 +42,9 @@ fn of_plan(outcome: Planned) -> Answer
 // The answer's values are the cost and the number of rows.
 #[no_mangle]
 pub extern "C" fn caching_plan(log: &[u8], marks: &mut [u8], rows: &mut [u32]) -> Answer
-    ensures { λ r. ⌜ r ≡ of-plan (planned (plan-verdict (now (log .entry)) (length (now (marks .entry))) (length (now (rows .entry)))) (now (log .entry))) ⌝ }
-    ensures { λ _. ⌜ now (marks .exit) ≡ marks-left (now (log .entry)) (now (marks .entry)) (now (rows .entry)) ⌝ }
-    ensures { λ _. ⌜ now (rows .exit) ≡ rows-left (now (log .entry)) (now (marks .entry)) (now (rows .entry)) ⌝ }
+    ensures { λ r. ⌜ r ≡ of-plan (planned (plan-verdict built-in (now (log .entry)) (length (now (marks .entry))) (length (now (rows .entry)))) built-in (now (log .entry))) ⌝ }
+    ensures { λ _. ⌜ now (marks .exit) ≡ marks-left built-in (now (log .entry)) (now (marks .entry)) (now (rows .entry)) ⌝ }
+    ensures { λ _. ⌜ now (rows .exit) ≡ rows-left built-in (now (log .entry)) (now (marks .entry)) (now (rows .entry)) ⌝ }
 {
     of_plan(planner::plan(log, marks, rows))
 }
@@ -60,8 +61,8 @@ fn of_least(outcome: LeastCosts) -> Answer
 // The answer's value is the number of costs.
 #[no_mangle]
 pub extern "C" fn caching_least(log: &[u8], costs: &mut [u64]) -> Answer
-    ensures { λ r. ⌜ r ≡ of-least (least-answer (least-verdict (now (log .entry)) (length (now (costs .entry)))) (now (log .entry))) ⌝ }
-    ensures { λ _. ⌜ now (costs .exit) ≡ costs-left (now (log .entry)) (now (costs .entry)) ⌝ }
+    ensures { λ r. ⌜ r ≡ of-least (least-answer (least-verdict built-in (now (log .entry)) (length (now (costs .entry)))) (now (log .entry))) ⌝ }
+    ensures { λ _. ⌜ now (costs .exit) ≡ costs-left built-in (now (log .entry)) (now (costs .entry)) ⌝ }
 {
     of_least(planner::least(log, costs))
 }

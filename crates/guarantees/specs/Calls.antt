@@ -15,6 +15,8 @@ use Rattle.base.specs.Refusals.{Condition, first, short, nth, First}
 use Rattle.base.specs.RefusalLaws.{first-refused, first-passed, append-passed}
 use Rattle.base.specs.Lent.{lent}
 use Rattle.base.specs.Lists.{build-length}
+use Rattle.prices.specs.Prices.{classes}
+use Rattle.prices.specs.Tariff.{built-in}
 use Rattle.log.specs.declared.Setup.{Setup}
 use Rattle.log.specs.Fields.{request-count, seconds-of, servers-of, length-for}
 use Rattle.log.specs.Conditions.{setup-conditions, log-conditions}
@@ -60,86 +62,86 @@ left v answer entry h =
 
 -- reading a log
 pub read-decided : (log : List ℕ) (seconds servers : ℕ)
-    → Decided (log-conditions log ++ (short (request-count log) seconds ∷ short (request-count log) servers ∷ [])) (read-verdict log seconds servers)
+    → Decided (log-conditions classes log ++ (short (request-count log) seconds ∷ short (request-count log) servers ∷ [])) (read-verdict built-in log seconds servers)
 unfolding read-verdict
 read-decided log seconds servers = decided _
 
-pub read-left : (log seconds servers : List ℕ) → let v = read-verdict log (length seconds) (length servers) in
+pub read-left : (log seconds servers : List ℕ) → let v = read-verdict built-in log (length seconds) (length servers) in
     Left v (seconds-of log) seconds × Left v (servers-of log) servers
 read-left log seconds servers = (
-  left v (seconds-of log) seconds (λ e. omega (arith, seconds-length log, read-passed log _ _ e)),
-  left v (servers-of log) servers (λ e. omega (arith, servers-length log, read-passed log _ _ e)),
+  left v (seconds-of log) seconds (λ e. omega (arith, seconds-length log, read-passed built-in log _ _ e)),
+  left v (servers-of log) servers (λ e. omega (arith, servers-length log, read-passed built-in log _ _ e)),
 )
   where
     v : Verdict
-    v = read-verdict log (length seconds) (length servers)
+    v = read-verdict built-in log (length seconds) (length servers)
 
 -- writing a log
 pub write-decided : (c : Contents) (log : ℕ)
-    → Decided (contents-conditions c ++ (short (length-for (length (c .seconds))) log ∷ [])) (write-verdict c log)
+    → Decided (contents-conditions classes c ++ (short (length-for (length (c .seconds))) log ∷ [])) (write-verdict built-in c log)
 unfolding write-verdict
 write-decided c log = decided _
 
-pub write-left : (c : Contents) (log : List ℕ) → Sixteen c → Left (write-verdict c (length log)) (encode c) log
+pub write-left : (c : Contents) (log : List ℕ) → Sixteen c → Left (write-verdict built-in c (length log)) (encode c) log
 write-left c log h =
-    left (write-verdict c (length log)) (encode c) log (λ e. omega (arith, encode-length c h, write-passed c (length log) e))
+    left (write-verdict built-in c (length log)) (encode c) log (λ e. omega (arith, encode-length c h, write-passed built-in c (length log) e))
 
 -- checking a schedule
-pub check-decided : (log rows : List ℕ) → Decided (check-conditions log rows) (check-verdict-of log rows)
+pub check-decided : (log rows : List ℕ) → Decided (check-conditions classes log rows) (check-verdict-of built-in log rows)
 unfolding check-verdict-of
-check-decided log rows = decided (check-conditions log rows)
+check-decided log rows = decided (check-conditions classes log rows)
 
 -- planning: marks are looked at before rows
 pub plan-decided : (log : List ℕ) (marks rows : ℕ)
-    → Decided (log-conditions log ++ (short (request-count log) marks ∷ short (length (rows-of-plan log)) rows ∷ [])) (plan-verdict log marks rows)
+    → Decided (log-conditions classes log ++ (short (request-count log) marks ∷ short (length (rows-of-plan built-in log)) rows ∷ [])) (plan-verdict built-in log marks rows)
 unfolding plan-verdict
 plan-decided log marks rows = decided _
 
-marks-length : (log : List ℕ) → length (marks-of log) ≡ request-count log
+marks-length : (log : List ℕ) → length (marks-of built-in log) ≡ request-count log
 unfolding marks-of
 marks-length log = build-length (request-count log) _
 
-pub plan-left : (log marks rows : List ℕ) → let v = plan-verdict log (length marks) (length rows) in
-    Left v (marks-of log) marks × Left v (rows-of-plan log) rows
+pub plan-left : (log marks rows : List ℕ) → let v = plan-verdict built-in log (length marks) (length rows) in
+    Left v (marks-of built-in log) marks × Left v (rows-of-plan built-in log) rows
 unfolding plan-verdict
 plan-left log marks rows = (
-  left v (marks-of log) marks (λ e. omega (arith, marks-length log, ltb-false (length marks) (request-count log) (room e 0))),
-  left v (rows-of-plan log) rows (λ e. ltb-false (length rows) (length (rows-of-plan log)) (room e 1)),
+  left v (marks-of built-in log) marks (λ e. omega (arith, marks-length log, ltb-false (length marks) (request-count log) (room e 0))),
+  left v (rows-of-plan built-in log) rows (λ e. ltb-false (length rows) (length (rows-of-plan built-in log)) (room e 1)),
 )
   where
     v : Verdict
-    v = plan-verdict log (length marks) (length rows)
+    v = plan-verdict built-in log (length marks) (length rows)
 
     outputs : List Condition
-    outputs = short (request-count log) (length marks) ∷ short (length (rows-of-plan log)) (length rows) ∷ []
+    outputs = short (request-count log) (length marks) ∷ short (length (rows-of-plan built-in log)) (length rows) ∷ []
 
     room : v ≡ Passed → (i : ℕ) → nth outputs i .holds ≡ false
-    room e = first-passed outputs .0 (append-passed (log-conditions log) outputs .0 e .1)
+    room e = first-passed outputs .0 (append-passed (log-conditions classes log) outputs .0 e .1)
 
 -- the least cost of every prefix
 pub least-decided : (log : List ℕ) (costs : ℕ)
-    → Decided (log-conditions log ++ (short (suc (request-count log)) costs ∷ [])) (least-verdict log costs)
+    → Decided (log-conditions classes log ++ (short (suc (request-count log)) costs ∷ [])) (least-verdict built-in log costs)
 unfolding least-verdict
 least-decided log costs = decided _
 
-least-length : (log : List ℕ) → length (least-costs log) ≡ suc (request-count log)
+least-length : (log : List ℕ) → length (least-costs built-in log) ≡ suc (request-count log)
 unfolding least-costs
 least-length log = build-length (suc (request-count log)) _
 
-pub least-left : (log costs : List ℕ) → Left (least-verdict log (length costs)) (least-costs log) costs
+pub least-left : (log costs : List ℕ) → Left (least-verdict built-in log (length costs)) (least-costs built-in log) costs
 unfolding least-verdict
 least-left log costs =
-    left (least-verdict log (length costs)) (least-costs log) costs
+    left (least-verdict built-in log (length costs)) (least-costs built-in log) costs
     (λ e. omega (arith, least-length log, ltb-false (length costs) (suc (request-count log)) (room e 0)))
   where
     outputs : List Condition
     outputs = short (suc (request-count log)) (length costs) ∷ []
 
-    room : least-verdict log (length costs) ≡ Passed → (i : ℕ) → nth outputs i .holds ≡ false
-    room e = first-passed outputs .0 (append-passed (log-conditions log) outputs .0 e .1)
+    room : least-verdict built-in log (length costs) ≡ Passed → (i : ℕ) → nth outputs i .holds ≡ false
+    room e = first-passed outputs .0 (append-passed (log-conditions classes log) outputs .0 e .1)
 
 -- the online cache's calls; they are lent nothing
-pub start-decided : (s : Setup) → Decided (setup-conditions s) (start-verdict s)
+pub start-decided : (s : Setup) → Decided (setup-conditions classes s) (start-verdict s)
 unfolding start-verdict
 start-decided s = decided _
 
@@ -156,7 +158,7 @@ unfolding close-verdict
 close-decided c = decided _
 
 -- the sheet of a log
-pub sheet-decided : (log : List ℕ) (text : ℕ) → Decided (log-conditions log ++ (short (length (sheet-of log)) text ∷ [])) (sheet-verdict log text)
+pub sheet-decided : (log : List ℕ) (text : ℕ) → Decided (log-conditions classes log ++ (short (length (sheet-of log)) text ∷ [])) (sheet-verdict log text)
 unfolding sheet-verdict
 sheet-decided log text = decided _
 
@@ -169,7 +171,7 @@ sheet-left log text =
     outputs = short (length (sheet-of log)) (length text) ∷ []
 
     room : sheet-verdict log (length text) ≡ Passed → (i : ℕ) → nth outputs i .holds ≡ false
-    room e = first-passed outputs .0 (append-passed (log-conditions log) outputs .0 e .1)
+    room e = first-passed outputs .0 (append-passed (log-conditions classes log) outputs .0 e .1)
 
 -- the line of a refusal
 pub line-decided : (r : Refusal) (text : ℕ) → Decided (short (length (refusal-text r)) text ∷ []) (room-verdict (refusal-text r) text)

@@ -6,7 +6,7 @@ use Prim.Native.Nat.{ℕ, _+_, _*_, _≤_, _<_}
 use native.Mathlib.Omega.{arith}
 use Rattle.base.specs.declared.Verdict.{Verdict}
 use Rattle.base.specs.declared.Verdict.the-variants.{Passed}
-use Rattle.prices.specs.Prices.{prices-of, window}
+use Rattle.prices.specs.Prices.{classes, prices-of, window}
 use Rattle.log.specs.declared.Setup.{Setup}
 use Rattle.online.specs.declared.Cache.{Cache}
 use Rattle.online.specs.declared.Closed.{Closed}
@@ -78,6 +78,6 @@ pub closes-once : (c : Cache) (calls : List Call) (x y : Taken-close c calls) �
 closes-once = close-once
 
 -- A CLOSE AT ONCE answers the hold price for one window
-pub close-at-once : (s : Setup) → start-verdict s ≡ Passed → closing (started s .cache) ≡ prices-of (s .«class») .hold * window (prices-of (s .«class»))
+pub close-at-once : (s : Setup) → start-verdict s ≡ Passed → closing (started s .cache) ≡ prices-of classes (s .«class») .hold * window (prices-of classes (s .«class»))
 unfolding started started-by
 close-at-once s e = rw e (closing-fresh s (start-passed s .0 e))

@@ -9,6 +9,8 @@ use Rattle.base.specs.declared.Verdict.the-variants.{Passed}
 use Rattle.base.specs.Refusals.{first}
 use Rattle.base.specs.RefusalLaws.{first-append}
 use Rattle.base.specs.Lists.{build-at}
+use Rattle.prices.specs.Prices.{classes}
+use Rattle.prices.specs.Tariff.{built-in}
 use Rattle.log.specs.declared.Setup.{Setup}
 use Rattle.log.specs.Fields.{request-count, server-count}
 use Rattle.log.specs.Conditions.{Accepted, verdict-of, log-conditions}
@@ -37,87 +39,87 @@ use Rattle.guarantees.specs.Optimality.{Optimal, optimal}
 -- the planner's answer for an accepted log cut to its first k requests
 pub record Planned-best (log : List ℕ) (k : ℕ) : Type 0 where
   -- the cut log is a log, and says the first k requests
-  pub accepted : Accepted (cut k log)
+  pub accepted : Accepted built-in (cut k log)
   pub says : decode (cut k log) ≡ first-requests k (decode log)
   -- with outputs long enough it is not refused
-  pub answered : (marks rows : ℕ) → k ≤ marks → length (rows-of-plan (cut k log)) ≤ rows → plan-verdict (cut k log) marks rows ≡ Passed
+  pub answered : (marks rows : ℕ) → k ≤ marks → length (rows-of-plan built-in (cut k log)) ≤ rows → plan-verdict built-in (cut k log) marks rows ≡ Passed
   -- and the answer is the cost and the number of rows
-  pub gives : (marks rows : ℕ) → k ≤ marks → length (rows-of-plan (cut k log)) ≤ rows
-      → planned (plan-verdict (cut k log) marks rows) (cut k log)
-      ≡ planner.Plan (plan-cost (prices-in (cut k log)) (requests-in (cut k log)) k) (length (planned-rows (cut k log)))
+  pub gives : (marks rows : ℕ) → k ≤ marks → length (rows-of-plan built-in (cut k log)) ≤ rows
+      → planned (plan-verdict built-in (cut k log) marks rows) built-in (cut k log)
+      ≡ planner.Plan (plan-cost (prices-in built-in (cut k log)) (requests-in (cut k log)) k) (length (planned-rows built-in (cut k log)))
   -- the planned rows are those of the plan of its k requests
-  pub rows-are : rows-of-plan (cut k log)
-      ≡ flat (plan-rows (prices-in (cut k log)) (requests-in (cut k log)) (server-count (cut k log)) k)
+  pub rows-are : rows-of-plan built-in (cut k log)
+      ≡ flat (plan-rows (prices-in built-in (cut k log)) (requests-in (cut k log)) (server-count (cut k log)) k)
   -- they are at most 4,096
-  pub few : length (planned-rows (cut k log)) ≤ 4096
+  pub few : length (planned-rows built-in (cut k log)) ≤ 4096
   -- the checker accepts the planned rows with the planned cost
-  pub checks : check-answer (cut k log) (rows-of-plan (cut k log)) ≡ answer.Cost (plan-cost (prices-in (cut k log)) (requests-in (cut k log)) k)
+  pub checks : check-answer built-in (cut k log) (rows-of-plan built-in (cut k log)) ≡ answer.Cost (plan-cost (prices-in built-in (cut k log)) (requests-in (cut k log)) k)
   -- they are well formed and feasible, cost that, and no feasible schedule costs less
-  pub best : Optimal (prices-in (cut k log)) (server-count (cut k log)) (requests-in (cut k log)) k
+  pub best : Optimal (prices-in built-in (cut k log)) (server-count (cut k log)) (requests-in (cut k log)) k
   -- and it is the least cost that `least` gives for the first k requests
-  pub least-is : getD (least-costs log) k 0 ≡ plan-cost (prices-in (cut k log)) (requests-in (cut k log)) k
+  pub least-is : getD (least-costs built-in log) k 0 ≡ plan-cost (prices-in built-in (cut k log)) (requests-in (cut k log)) k
 
-module _ (log : List ℕ) (k : ℕ) (a : Accepted log) (h : k ≤ request-count log) where
+module _ (log : List ℕ) (k : ℕ) (a : Accepted built-in log) (h : k ≤ request-count log) where
   part : List ℕ
   part = cut k log
 
-  part-accepted : Accepted part
+  part-accepted : Accepted built-in part
   unfolding part
-  part-accepted = cut-accepted log k a h
+  part-accepted = cut-accepted built-in log k a h
 
   part-count : request-count part ≡ k
   unfolding part
-  part-count = cut-count log k a h
+  part-count = cut-count built-in log k a h
 
-  part-best : Optimal (prices-in part) (server-count part) (requests-in part) k
+  part-best : Optimal (prices-in built-in part) (server-count part) (requests-in part) k
   part-best =
-      optimal (prices-in part) (server-count part) (requests-in part) k
-      (rw part-count at (log-rising part part-accepted))
-      (rw part-count at (log-within part part-accepted))
+      optimal (prices-in built-in part) (server-count part) (requests-in part) k
+      (rw part-count at (log-rising built-in part part-accepted))
+      (rw part-count at (log-within built-in part part-accepted))
 
-  part-rows : rows-of-plan part ≡ flat (plan-rows (prices-in part) (requests-in part) (server-count part) k)
+  part-rows : rows-of-plan built-in part ≡ flat (plan-rows (prices-in built-in part) (requests-in part) (server-count part) k)
   unfolding rows-of-plan planned-rows
   part-rows = rw part-count
 
-  few : length (planned-rows part) ≤ 4096
+  few : length (planned-rows built-in part) ≤ 4096
   unfolding planned-rows
   few =
-      let rows : length (plan-rows (prices-in part) (requests-in part) (server-count part) (request-count part)) ≤ 2 * k = rw part-count (part-best .few) in
-      omega (arith, rows, accepted-sound log a .requests-most, h)
+      let rows : length (plan-rows (prices-in built-in part) (requests-in part) (server-count part) (request-count part)) ≤ 2 * k = rw part-count (part-best .few) in
+      omega (arith, rows, accepted-sound built-in log a .requests-most, h)
 
-  checks : check-answer part (rows-of-plan part) ≡ answer.Cost (plan-cost (prices-in part) (requests-in part) k)
+  checks : check-answer built-in part (rows-of-plan built-in part) ≡ answer.Cost (plan-cost (prices-in built-in part) (requests-in part) k)
   checks =
-      let rows = plan-rows (prices-in part) (requests-in part) (server-count part) k in
+      let rows = plan-rows (prices-in built-in part) (requests-in part) (server-count part) k in
       rw part-rows
       (schedule-accepted part rows part-accepted (rw part-count (part-best .formed)) (rw part-count (part-best .feasible)) ∙ ap answer.Cost (part-best .costs))
 
-  answered : (marks rows : ℕ) → k ≤ marks → length (rows-of-plan part) ≤ rows → plan-verdict part marks rows ≡ Passed
+  answered : (marks rows : ℕ) → k ≤ marks → length (rows-of-plan built-in part) ≤ rows → plan-verdict built-in part marks rows ≡ Passed
   unfolding plan-verdict verdict-of Accepted first
   answered marks rows u w =
-      first-append (log-conditions part) _
-      ∙ rw (part-accepted, part-count, le-ltb marks k u, le-ltb rows (length (rows-of-plan part)) w)
+      first-append (log-conditions classes part) _
+      ∙ rw (part-accepted, part-count, le-ltb marks k u, le-ltb rows (length (rows-of-plan built-in part)) w)
 
-  gives : (marks rows : ℕ) → k ≤ marks → length (rows-of-plan part) ≤ rows
-      → planned (plan-verdict part marks rows) part ≡ planner.Plan (plan-cost (prices-in part) (requests-in part) k) (length (planned-rows part))
+  gives : (marks rows : ℕ) → k ≤ marks → length (rows-of-plan built-in part) ≤ rows
+      → planned (plan-verdict built-in part marks rows) built-in part ≡ planner.Plan (plan-cost (prices-in built-in part) (requests-in part) k) (length (planned-rows built-in part))
   unfolding planned
   gives marks rows u w = rw (answered marks rows u w, part-count)
 
-  least-is : getD (least-costs log) k 0 ≡ plan-cost (prices-in part) (requests-in part) k
+  least-is : getD (least-costs built-in log) k 0 ≡ plan-cost (prices-in built-in part) (requests-in part) k
   unfolding least-costs part
   least-is =
       build-at (suc (request-count log)) _ k 0 (omega arith)
-      ∙ plan-best (prices-in log) (requests-in log) k
-      ∙ sym (best-alike (requests-in part) (requests-in log) k (cut-alike log k a h) (prices-in log) k k (omega arith))
-      ∙ sym (plan-best (prices-in log) (requests-in part) k)
-      ∙ rw (cut-prices log k a h)
+      ∙ plan-best (prices-in built-in log) (requests-in log) k
+      ∙ sym (best-alike (requests-in part) (requests-in log) k (cut-alike built-in log k a h) (prices-in built-in log) k k (omega arith))
+      ∙ sym (plan-best (prices-in built-in log) (requests-in part) k)
+      ∙ rw (cut-prices built-in log k a h)
 
 -- THE PLANNER'S HALF
-pub planned-best : (log : List ℕ) (k : ℕ) → Accepted log → k ≤ request-count log → Planned-best log k
+pub planned-best : (log : List ℕ) (k : ℕ) → Accepted built-in log → k ≤ request-count log → Planned-best log k
 unfolding part
 planned-best log k a h =
     record {
       accepted = part-accepted log k a h;
-      says = cut-decodes log k a h;
+      says = cut-decodes built-in log k a h;
       answered = answered log k a h;
       gives = gives log k a h;
       rows-are = part-rows log k a h;

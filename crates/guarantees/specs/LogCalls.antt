@@ -1,7 +1,7 @@
 -- The round trips of the log over its calls: what `write` leaves is read as it was given, and what `read` answers is written as it was.
 use mathlib.Core.List.{List, _++_}
 use mathlib.Core.Path.{_≡_, refl, sym, ap, _∙_}
-use Prim.Native.Nat.{ℕ, _-_, _≤_}
+use Prim.Native.Nat.{ℕ, _-_, _≤_, _<_}
 use native.Mathlib.Omega.{arith}
 use lib.ListN.{length, take, replicate}
 use lib.Seq.{take-at}
@@ -9,6 +9,8 @@ use Rattle.base.specs.declared.Verdict.{Verdict}
 use Rattle.base.specs.declared.Verdict.the-variants.{Passed, Refused}
 use Rattle.base.specs.Bytes.{Are-bytes}
 use Rattle.base.specs.Lent.{lent}
+use Rattle.prices.specs.Prices.{classes}
+use Rattle.prices.specs.Tariff.{built-in}
 use Rattle.log.specs.declared.Header.{Header}
 use Rattle.log.specs.declared.Decoded.{Decoded}
 use Rattle.log.specs.declared.ReadOutcome.the-variants as read
@@ -17,7 +19,7 @@ use Rattle.log.specs.Fields.{header-of, request-count, length-for, seconds-of, 
 use Rattle.log.specs.Contents.{Contents, contents, decode, encode}
 use Rattle.log.specs.Ranges.{Proper}
 use Rattle.log.specs.Answers.{read-verdict, decoded, seconds-left, servers-left, write-verdict, written, log-left}
-use Rattle.log.specs.AcceptedLaws.{accepted-sound, seconds-length, servers-length}
+use Rattle.log.specs.AcceptedLaws.{accepted-class, accepted-sound, seconds-length, servers-length}
 use Rattle.log.specs.EncodeLaws.{encode-length, encode-count, encode-header, encode-seconds, encode-servers}
 use Rattle.log.specs.RoundTrip.{encode-accepted, decode-proper, encode-decode}
 use Rattle.log.specs.AnswerLaws.{read-passed, read-passes, write-passed, write-passes}
@@ -52,33 +54,36 @@ given v answer entry e = rw e
 
 -- `write` was handed a header, seconds and servers, and answered the length n
 module _ (h : Header) (seconds servers log : List ℕ) (n : ℕ) (sixteen : length (h .id) ≡ 16)
-    (wrote : written (write-verdict (contents h seconds servers) (length log)) (contents h seconds servers) ≡ write.Length n) where
+    (wrote : written (write-verdict built-in (contents h seconds servers) (length log)) (contents h seconds servers) ≡ write.Length n) where
   -- the first n bytes of what it left
   abbrev bytes-left : List ℕ
-  bytes-left = take n (log-left (contents h seconds servers) log)
+  bytes-left = take n (log-left built-in (contents h seconds servers) log)
+
+  in-table : h .«class» < length classes
+  in-table = write-passed built-in (contents h seconds servers) (length log) (length-passed _ _ n wrote .0) .0
 
   proper : Proper (contents h seconds servers)
-  proper = write-passed (contents h seconds servers) (length log) (length-passed _ _ n wrote .0) .0
+  proper = write-passed built-in (contents h seconds servers) (length log) (length-passed _ _ n wrote .0) .1
 
   -- they are the log that says this
   bytes-are : bytes-left ≡ encode (contents h seconds servers)
   bytes-are =
       let c = contents h seconds servers in
-      let (p, m) = length-passed (write-verdict c (length log)) c n wrote in
-      ap (take n) (given (write-verdict c (length log)) (encode c) log p)
+      let (p, m) = length-passed (write-verdict built-in c (length log)) c n wrote in
+      ap (take n) (given (write-verdict built-in c (length log)) (encode c) log p)
       ∙ take-at (encode c) _ n (encode-length c sixteen ∙ sym m)
 
   -- read into lists that are long enough, they give the same header and as many requests, and the lists hold the same seconds and servers, then zeros
   pub written-read : (seconds′ servers′ : List ℕ) → length seconds ≤ length seconds′ → length seconds ≤ length servers′
-      → (decoded (read-verdict bytes-left (length seconds′) (length servers′)) bytes-left ≡ requests-read h (length seconds))
-      × (seconds-left bytes-left seconds′ servers′ ≡ seconds ++ replicate (length seconds′ - length seconds) 0)
-      × (servers-left bytes-left seconds′ servers′ ≡ servers ++ replicate (length servers′ - length servers) 0)
+      → (decoded (read-verdict built-in bytes-left (length seconds′) (length servers′)) bytes-left ≡ requests-read h (length seconds))
+      × (seconds-left built-in bytes-left seconds′ servers′ ≡ seconds ++ replicate (length seconds′ - length seconds) 0)
+      × (servers-left built-in bytes-left seconds′ servers′ ≡ servers ++ replicate (length servers′ - length servers) 0)
   unfolding decoded
   written-read seconds′ servers′ p q =
       let c = contents h seconds servers in
       let count = encode-count c (omega (arith, proper .requests-most)) in
-      let v : read-verdict (encode c) (length seconds′) (length servers′) ≡ Passed =
-      read-passes (encode c) _ _ (encode-accepted c proper sixteen) (omega arith) (omega arith) in
+      let v : read-verdict built-in (encode c) (length seconds′) (length servers′) ≡ Passed =
+      read-passes built-in (encode c) _ _ (encode-accepted built-in c refl in-table proper sixteen) (omega arith) (omega arith) in
       rw bytes-are (
         rw (v, encode-header c sixteen, count),
         given _ _ seconds′ v ∙ rw (encode-seconds c sixteen proper),
@@ -87,33 +92,33 @@ module _ (h : Header) (seconds servers log : List ℕ) (n : ℕ) (sixteen : leng
 
 -- `read` was handed bytes, and answered the header h and n requests
 module _ (bytes seconds servers : List ℕ) (h : Header) (n : ℕ) (are-bytes : Are-bytes bytes)
-    (was-read : decoded (read-verdict bytes (length seconds) (length servers)) bytes ≡ requests-read h n) where
+    (was-read : decoded (read-verdict built-in bytes (length seconds) (length servers)) bytes ≡ requests-read h n) where
   -- that header, and the requests at the front of what it left
   abbrev contents-read : Contents
-  contents-read = contents h (take n (seconds-left bytes seconds servers)) (take n (servers-left bytes seconds servers))
+  contents-read = contents h (take n (seconds-left built-in bytes seconds servers)) (take n (servers-left built-in bytes seconds servers))
 
   -- they are what the bytes say
   contents-are : contents-read ≡ decode bytes
   unfolding decode
   contents-are =
-      let (v, e, m) = requests-passed (read-verdict bytes (length seconds) (length servers)) bytes h n was-read in
+      let (v, e, m) = requests-passed (read-verdict built-in bytes (length seconds) (length servers)) bytes h n was-read in
       rw (
         e,
         m,
-        given (read-verdict bytes (length seconds) (length servers)) (seconds-of bytes) seconds v,
-        given (read-verdict bytes (length seconds) (length servers)) (servers-of bytes) servers v,
+        given (read-verdict built-in bytes (length seconds) (length servers)) (seconds-of bytes) seconds v,
+        given (read-verdict built-in bytes (length seconds) (length servers)) (servers-of bytes) servers v,
         take-at (seconds-of bytes) _ (request-count bytes) (seconds-length bytes),
         take-at (servers-of bytes) _ (request-count bytes) (servers-length bytes),
       )
 
   -- written into a list that is long enough, they give the length of the bytes, and the list holds the bytes, then zeros
   pub read-written : (log : List ℕ) → length bytes ≤ length log
-      → (written (write-verdict contents-read (length log)) contents-read ≡ write.Length (length bytes))
-      × (log-left contents-read log ≡ bytes ++ replicate (length log - length bytes) 0)
-  unfolding written decode
+      → (written (write-verdict built-in contents-read (length log)) contents-read ≡ write.Length (length bytes))
+      × (log-left built-in contents-read log ≡ bytes ++ replicate (length log - length bytes) 0)
+  unfolding written decode header-of
   read-written log l =
-      let v = requests-passed (read-verdict bytes (length seconds) (length servers)) bytes h n was-read .0 in
-      let a = read-passed bytes _ _ v .0 in
-      let long : length-for (length (seconds-of bytes)) ≡ length bytes = ap length-for (seconds-length bytes) ∙ sym (accepted-sound bytes a .length-is) in
-      let w : write-verdict (decode bytes) (length log) ≡ Passed = write-passes (decode bytes) _ (decode-proper bytes a) (omega arith) in
-      rw contents-are (rw (w, long), given _ _ log w ∙ rw (encode-decode bytes a are-bytes))
+      let v = requests-passed (read-verdict built-in bytes (length seconds) (length servers)) bytes h n was-read .0 in
+      let a = read-passed built-in bytes _ _ v .0 in
+      let long : length-for (length (seconds-of bytes)) ≡ length bytes = ap length-for (seconds-length bytes) ∙ sym (accepted-sound built-in bytes a .length-is) in
+      let w : write-verdict built-in (decode bytes) (length log) ≡ Passed = write-passes built-in (decode bytes) _ refl (accepted-class built-in bytes a) (decode-proper built-in bytes a) (omega arith) in
+      rw contents-are (rw (w, long), given _ _ log w ∙ rw (encode-decode built-in bytes a are-bytes))

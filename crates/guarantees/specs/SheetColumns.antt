@@ -9,6 +9,7 @@ use lib.ListN.{length, getD, replicate}
 use Rattle.base.specs.Lists.{build, build-length, build-at}
 use Rattle.base.specs.declared.Verdict.the-variants.{Passed}
 use Rattle.prices.specs.Prices.{window}
+use Rattle.prices.specs.Tariff.{built-in}
 use Rattle.log.specs.Fields.{setup-of, server-count, home-of, request-count, seconds-of, servers-of, header-of}
 use Rattle.log.specs.Conditions.{Accepted}
 use Rattle.log.specs.Contents.{Contents, decode, first-requests, cut}
@@ -46,24 +47,24 @@ pub record Least-column (log : List ℕ) (k : ℕ) : Type 0 where
   -- it is the line of request k
   pub number-is : line-of log k .number ≡ k
   -- its least cost is the cost of the plan of the log cut to its first k requests
-  pub least-is : line-of log k .least ≡ plan-cost (prices-in (cut k log)) (requests-in (cut k log)) k
+  pub least-is : line-of log k .least ≡ plan-cost (prices-in built-in (cut k log)) (requests-in (cut k log)) k
   -- so it is what the planner answers for the cut log, its outputs long enough
-  pub answers : (marks rows : ℕ) → k ≤ marks → length (rows-of-plan (cut k log)) ≤ rows
-      → planned (plan-verdict (cut k log) marks rows) (cut k log) ≡ planned′.Plan (line-of log k .least) (length (planned-rows (cut k log)))
+  pub answers : (marks rows : ℕ) → k ≤ marks → length (rows-of-plan built-in (cut k log)) ≤ rows
+      → planned (plan-verdict built-in (cut k log) marks rows) built-in (cut k log) ≡ planned′.Plan (line-of log k .least) (length (planned-rows built-in (cut k log)))
 
 -- THE SHEET'S LEAST COLUMN
-pub least-column : (log : List ℕ) (k : ℕ) → Accepted log → 1 ≤ k → k ≤ request-count log → Least-column log k
+pub least-column : (log : List ℕ) (k : ℕ) → Accepted built-in log → 1 ≤ k → k ≤ request-count log → Least-column log k
 unfolding entry-of columns-of
 least-column log k a least most =
     let best = planned-best log k a most in
     let number : line-of log k .number ≡ k = omega arith in
-    let column : line-of log k .least ≡ plan-cost (prices-in (cut k log)) (requests-in (cut k log)) k =
-    ap (λ (i : ℕ). getD (least-costs log) i 0) number ∙ best .least-is in
+    let column : line-of log k .least ≡ plan-cost (prices-in built-in (cut k log)) (requests-in (cut k log)) k =
+    ap (λ (i : ℕ). getD (least-costs built-in log) i 0) number ∙ best .least-is in
     record {
       number-is = number;
       least-is = column;
       answers = λ marks rows h l.
-          best .gives marks rows h l ∙ ap (λ (cost : ℕ). planned′.Plan cost (length (planned-rows (cut k log)))) (sym column);
+          best .gives marks rows h l ∙ ap (λ (cost : ℕ). planned′.Plan cost (length (planned-rows built-in (cut k log)))) (sym column);
     }
 
 -- ---- the live columns
@@ -92,7 +93,7 @@ pub record Live-columns (log : List ℕ) (k : ℕ) : Type 0 where
   pub no-less : line-of log k .least ≤ line-of log k .cost
   pub no-more : line-of log k .cost ≤ 3 * line-of log k .least
 
-module _ (log : List ℕ) (k : ℕ) (a : Accepted log) (h : k ≤ request-count log) where
+module _ (log : List ℕ) (k : ℕ) (a : Accepted built-in log) (h : k ≤ request-count log) where
   passed : verdicts (opened log) (calls-of log k) ≡ replicate k Passed
   unfolding Runs
   passed = scans-passed (opened log) (seconds-of log) (servers-of log) k (λ i l. goes-on log a i (omega arith))
@@ -109,17 +110,17 @@ module _ (log : List ℕ) (k : ℕ) (a : Accepted log) (h : k ≤ request-count 
   served-is =
       ap (requests-of (home-of log)) list-of
       ∙ requests-taken (home-of log) k (seconds-of log) (servers-of log) (omega (arith, seconds-length log)) (omega (arith, servers-length log))
-      ∙ sym (ap (λ (c : Contents). requests (c .header .home) (c .seconds) (c .servers)) (cut-decodes log k a h))
+      ∙ sym (ap (λ (c : Contents). requests (c .header .home) (c .seconds) (c .servers)) (cut-decodes built-in log k a h))
 
   count-is : served-count (setup-of log) (opened log) (calls-of log k) ≡ k
   count-is = ap length list-of ∙ build-length k (request (seconds-of log) (servers-of log))
 
   -- a claim's least cost is that of the cut log's plan
-  least-of : (x : Claim (setup-of log) (opened log) (calls-of log k)) → x .least ≡ plan-cost (prices-in (cut k log)) (requests-in (cut k log)) k
+  least-of : (x : Claim (setup-of log) (opened log) (calls-of log k)) → x .least ≡ plan-cost (prices-in built-in (cut k log)) (requests-in (cut k log)) k
   unfolding prices-in
-  least-of x = x .is-planned ∙ rw (served-is, count-is, cut-prices log k a h)
+  least-of x = x .is-planned ∙ rw (served-is, count-is, cut-prices built-in log k a h)
 
-module _ (log : List ℕ) (i : ℕ) (a : Accepted log) (h : i < request-count log) where
+module _ (log : List ℕ) (i : ℕ) (a : Accepted built-in log) (h : i < request-count log) where
   -- the line of request i, from 0
   turn-is : turn (run (opened log) (calls-of log i)) (getD (seconds-of log) i 0) (getD (servers-of log) i 0)
       ≡ record {
@@ -131,7 +132,7 @@ module _ (log : List ℕ) (i : ℕ) (a : Accepted log) (h : i < request-count lo
   turn-is = turn-next (opened log) (seconds-of log) (servers-of log) i (run (opened log) (calls-of log i)) refl (goes-on log a i h)
 
 -- THE SHEET'S LIVE COLUMNS
-pub live-columns : (log : List ℕ) (k : ℕ) → Accepted log → 1 ≤ k → k ≤ request-count log → Live-columns log k
+pub live-columns : (log : List ℕ) (k : ℕ) → Accepted built-in log → 1 ≤ k → k ≤ request-count log → Live-columns log k
 unfolding entry-of columns-of live-marks running-costs live-cost state-after turn
 live-columns log zero a least most = absurd (omega arith)
 live-columns log (suc i) a least most =
@@ -169,18 +170,18 @@ pub record Close-line (log : List ℕ) : Type 0 where
   pub answers : closed-answer (run (opened log) (all-calls log)) .outcome ≡ close′.Cost (closing-cost log)
   -- it is at least the running cost, and at most three times the least cost of all requests and one transfer price
   pub no-less : running (run (opened log) (all-calls log)) ≤ closing-cost log
-  pub no-more : closing-cost log ≤ 3 * getD (least-costs log) (request-count log) 0 + prices-in log .transfer
+  pub no-more : closing-cost log ≤ 3 * getD (least-costs built-in log) (request-count log) 0 + prices-in built-in log .transfer
   -- a log without requests has the holding of one window
-  pub empty : request-count log ≡ 0 → closing-cost log ≡ prices-in log .hold * window (prices-in log)
+  pub empty : request-count log ≡ 0 → closing-cost log ≡ prices-in built-in log .hold * window (prices-in built-in log)
 
 -- THE SHEET'S LAST LINE
-pub close-line : (log : List ℕ) → Accepted log → Close-line log
+pub close-line : (log : List ℕ) → Accepted built-in log → Close-line log
 unfolding closing-cost state-after scans build run opened prices-in
 close-line log a =
     let n = request-count log in
     let passes : close-verdict (run (opened log) (all-calls log)) ≡ Passed = closes log a in
     let w = close-within (setup-of log) (starts log a) (all-calls log) passes in
-    let least : w .claimed .least ≡ getD (least-costs log) n 0 =
+    let least : w .claimed .least ≡ getD (least-costs built-in log) n 0 =
     least-of log n a (omega arith) (w .claimed) ∙ sym (planned-best log n a (omega arith) .least-is) in
     record {
       passes = passes;

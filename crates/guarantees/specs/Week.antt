@@ -9,7 +9,8 @@ use Rattle.base.specs.Choice.{pick, both}
 use Rattle.base.specs.Lists.{build}
 use Rattle.base.specs.declared.Verdict.{Verdict}
 use Rattle.base.specs.declared.Verdict.the-variants.{Passed, Refused}
-use Rattle.prices.specs.Prices.{prices-of}
+use Rattle.prices.specs.Prices.{classes, prices-of}
+use Rattle.prices.specs.Tariff.{built-in}
 use Rattle.log.specs.declared.Setup.{Setup}
 use Rattle.log.specs.Conditions.{verdict-of}
 use Rattle.log.specs.Contents.{contents, encode}
@@ -79,17 +80,17 @@ live-letter (scan.Refused r) = 0
 
 -- the least cost of the first 0, 1, 2, .. requests
 unfoldable pub least-so-far : Given → List ℕ
-least-so-far g = build (suc (length (g .seconds))) (λ k. plan-cost (prices-of (g .setup .«class»)) (requests-given g) k)
+least-so-far g = build (suc (length (g .seconds))) (λ k. plan-cost (prices-of classes (g .setup .«class»)) (requests-given g) k)
 
 -- the marks of the plan over the whole week
 unfoldable pub plan-letters : Given → List ℕ
 plan-letters g =
-    let m = plan (prices-of (g .setup .«class»)) (requests-given g) (length (g .seconds)) in
+    let m = plan (prices-of classes (g .setup .«class»)) (requests-given g) (length (g .seconds)) in
     build (length (g .seconds)) (λ k. letter (m (suc k)))
 
 -- the numbers of the plan's rows
 unfoldable pub plan-numbers : Given → List ℕ
-plan-numbers g = flat (plan-rows (prices-of (g .setup .«class»)) (requests-given g) (g .setup .«server_count») (length (g .seconds)))
+plan-numbers g = flat (plan-rows (prices-of classes (g .setup .«class»)) (requests-given g) (g .setup .«server_count») (length (g .seconds)))
 
 -- the running cost of a state and after each request served from it; the closing cost in the end; the mark of each request
 unfoldable pub costs-from : Cache → List ℕ → List ℕ → List ℕ
@@ -122,12 +123,12 @@ right (planned g least costs closing marks live rows) =
     (both (same (plan-letters g) marks)
     (both (same (letters-from (started (g .setup) .cache) (g .seconds) (g .servers)) live)
     (same (plan-numbers g) rows)))))
-right (checked g rows number place c) = same (answer-numbers (check-answer (log-of g) rows)) (number ∷ place ∷ c ∷ [])
-right (logged g number place) = same (as-numbers (verdict-of (log-of g))) (number ∷ place ∷ [])
+right (checked g rows number place c) = same (answer-numbers (check-answer built-in (log-of g) rows)) (number ∷ place ∷ c ∷ [])
+right (logged g number place) = same (as-numbers (verdict-of built-in (log-of g))) (number ∷ place ∷ [])
 right (tied g c n) =
     let q = requests-given g in
     let k = length (g .seconds) in
-    eqb (total (λ m. pick (eqb (cost (prices-of (g .setup .«class»)) q m k) c) 1 0) (markings q k)) n
+    eqb (total (λ m. pick (eqb (cost (prices-of classes (g .setup .«class»)) q m k) c) 1 0) (markings q k)) n
 right (printed g text) = same (output (log-of g)) (ascii text)
 
 -- every week of a table is right

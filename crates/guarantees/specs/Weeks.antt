@@ -95,6 +95,6 @@ unfolding weeks own-weeks all-right right same as-numbers answer-numbers request
 weeks-right = refl
 
 -- the two windows that 01's 'Prices' names: of class 4 and of class 6
-pub windows-right : (window (prices-of 4) ≡ 33) × (window (prices-of 6) ≡ 0)
+pub windows-right : (window (prices-of classes 4) ≡ 33) × (window (prices-of classes 6) ≡ 0)
 unfolding classes prices-of window
 windows-right = (refl, refl)

@@ -10,13 +10,16 @@ use lib.ListN.{getD, length}
 use borrow.Author.Tests.{ltb-false, leb-false, eqb-false, eqb-true, not-false, le-ltb, lt-leb, eq-eqb, ne-eqb}
 use Rattle.base.specs.Choice.{either}
 use Rattle.base.specs.ChoiceLaws.{either-false, neither-of}
-use Rattle.base.specs.Refusals.{Condition, first, each}
-use Rattle.base.specs.RefusalLaws.{first-failed, append-passed, each-passed, first-passed}
+use Rattle.base.specs.Refusals.{Condition, first, from, each}
+use Rattle.base.specs.RefusalLaws.{first-failed, from-otherwise, otherwise-passed, append-passed, each-passed, first-passed}
+use Rattle.base.specs.declared.Verdict.{Verdict}
 use Rattle.base.specs.declared.Verdict.the-variants.{Passed}
 use Rattle.base.specs.Bytes.{le16, le32}
 use Rattle.base.specs.Lists.{build-length, build-at}
+use Rattle.prices.specs.declared.Prices.{Prices}
+use Rattle.prices.specs.Tariff.{Tariff}
 use Rattle.log.specs.declared.Setup.{Setup}
-use Rattle.log.specs.Fields.{server-count, request-count, requests-offset, id-offset, total-length, id-of, length-for, seconds-of, servers-of}
+use Rattle.log.specs.Fields.{class-of, server-count, request-count, requests-offset, id-offset, total-length, id-of, length-for, seconds-of, servers-of}
 use Rattle.log.specs.Conditions.{setup-conditions, form-conditions, header-conditions, before, request-conditions, log-conditions, verdict-of, Accepted}
 use Rattle.log.specs.Contents.{Contents, contents-conditions}
 use Rattle.log.specs.Ranges.{Allowed, In-order, Sound, Proper, Writable}
@@ -51,23 +54,23 @@ passed-cons c cs h e = first-failed c cs h ∙ e
 
 -- ---- the conditions on a setup and on a request, both ways
 
--- class, server count and home
-allowed : (s : Setup) → ltb 7 (s .«class») ≡ false → either (eqb (s .«server_count») 0) (ltb 64 (s .«server_count»)) ≡ false
+-- server count and home
+allowed : (s : Setup) → either (eqb (s .«server_count») 0) (ltb 64 (s .«server_count»)) ≡ false
     → leb (s .«server_count») (s .home) ≡ false → Allowed s
-allowed s p q r = let range = range-false (s .«server_count») 64 q in omega (arith, ltb-false, leb-false)
+allowed s q r = let range = range-false (s .«server_count») 64 q in omega (arith, ltb-false, leb-false)
 
-passed-setup : (s : Setup) (cs : List Condition) → Allowed s → first cs ≡ Passed → first (setup-conditions s ++ cs) ≡ Passed
+passed-setup : (table : List Prices) (s : Setup) (cs : List Condition) → s .«class» < length table → Allowed s → first cs ≡ Passed → first (setup-conditions table s ++ cs) ≡ Passed
 unfolding setup-conditions
-passed-setup s cs f e =
-    passed-cons _ _ (le-ltb _ _ (f .class-most))
+passed-setup table s cs l f e =
+    passed-cons _ _ (lt-leb _ _ l)
     (passed-cons _ _ (false-range _ _ (f .servers-least) (f .servers-most)) (passed-cons _ _ (lt-leb _ _ (f .home-below)) e))
 
--- no condition on a setup holds exactly if it is allowed
-pub setup-allowed : (s : Setup) → (first (setup-conditions s) ≡ Passed) ↔ Allowed s
+-- no condition on a setup holds exactly if its class is one of the table and the rest is allowed
+pub setup-allowed : (table : List Prices) (s : Setup) → (first (setup-conditions table s) ≡ Passed) ↔ ((s .«class» < length table) × Allowed s)
 unfolding setup-conditions
-setup-allowed s = (
-  λ e. let f = first-passed (setup-conditions s) .0 e in allowed s (f 0) (f 1) (f 2),
-  λ a. passed-setup s [] a passed-nil,
+setup-allowed table s = (
+  λ e. let f = first-passed (setup-conditions table s) .0 e in (leb-false _ _ (f 0), allowed s (f 1) (f 2)),
+  λ (l, a). passed-setup table s [] l a passed-nil,
 )
 
 -- the first m requests
@@ -92,27 +95,39 @@ module _ (n : ℕ) (seconds servers : List ℕ) (m : ℕ) where
 -- ---- the log
 
 -- where none of 1 to 9 holds the log is as long as its requests need
-pub form-length : (s : List ℕ) → first (form-conditions s) ≡ Passed → length s ≡ length-for (request-count s)
+pub form-length : (v : Verdict) (table : List Prices) (s : List ℕ) → from v (form-conditions table s) ≡ Passed → length s ≡ length-for (request-count s)
 unfolding setup-conditions
-form-length s a =
-    let f = first-passed (form-conditions s) .0 a in
+form-length v table s a =
+    let f = first-passed (form-conditions table s) .0 (otherwise-passed v _ (sym (from-otherwise v (form-conditions table s)) ∙ a) .1) in
     let at-others = either-false (not (eqb (requests-offset s) 40)) _ (f 7) .1 in
     let at-total = either-false (not (eqb (id-offset s) 24)) _ at-others .1 in
     differ-false _ _ (f 8) ∙ differ-false _ _ at-total
 
--- an accepted log is sound
-pub accepted-sound : (s : List ℕ) → Accepted s → Sound s
+-- the price file of an accepted log is not refused
+pub accepted-judged : (t : Tariff) (s : List ℕ) → Accepted t s → t .judged ≡ Passed
+unfolding Accepted verdict-of
+accepted-judged t s a = otherwise-passed (t .judged) _ a .0
+
+-- its class is one of the table
+pub accepted-class : (t : Tariff) (s : List ℕ) → Accepted t s → class-of s < length (t .table)
 unfolding Accepted verdict-of log-conditions header-conditions setup-conditions
-accepted-sound s a =
+accepted-class t s a =
+    let p = append-passed (header-conditions (t .table) s) _ .0 (otherwise-passed (t .judged) _ a .1) .0 in
+    leb-false _ _ (first-passed (header-conditions (t .table) s) .0 p 2)
+
+-- an accepted log is sound
+pub accepted-sound : (t : Tariff) (s : List ℕ) → Accepted t s → Sound s
+unfolding Accepted verdict-of log-conditions header-conditions setup-conditions
+accepted-sound t s a =
     let each-request = each (request-conditions (server-count s) (seconds-of s) (servers-of s)) (request-count s) in
-    let (p, q) = append-passed (header-conditions s) each-request .0 a in
-    let f = first-passed (header-conditions s) .0 p in
+    let (p, q) = append-passed (header-conditions (t .table) s) each-request .0 (otherwise-passed (t .judged) _ a .1) in
+    let f = first-passed (header-conditions (t .table) s) .0 p in
     let (at-requests, at-others) = either-false _ _ (f 7) in
     let (at-id, at-total) = either-false _ _ at-others in
     let total : total-length s ≡ length-for (request-count s) = differ-false _ _ at-total in
     record {
       version-is = differ-false _ _ (f 1);
-      setup = allowed _ (f 2) (f 3) (f 4);
+      setup = allowed _ (f 3) (f 4);
       zero-is = differ-false _ _ (f 5);
       requests-most = ltb-false _ _ (f 6);
       requests-at = differ-false _ _ at-requests;
@@ -123,43 +138,45 @@ accepted-sound s a =
       in-order = in-order-of _ _ _ _ q;
     }
 
--- a sound log is accepted
-pub sound-accepted : (s : List ℕ) → Sound s → Accepted s
+-- a sound log is accepted, if its price file is not refused and has its class
+pub sound-accepted : (t : Tariff) (s : List ℕ) → t .judged ≡ Passed → class-of s < length (t .table) → Sound s → Accepted t s
 unfolding Accepted verdict-of log-conditions header-conditions setup-conditions length-for
-sound-accepted s f =
-    append-passed (header-conditions s) _ .1 (
+sound-accepted t s j l f = rw j (
+    append-passed (header-conditions (t .table) s) _ .1 (
       passed-cons _ _ (le-ltb (length s) 40 (omega (arith, f .length-is)))
           (passed-cons _ _ (same-false _ _ (f .version-is))
-          (passed-setup _ _ (f .setup)
+          (passed-setup (t .table) _ _ l (f .setup)
           (passed-cons _ _ (same-false _ _ (f .zero-is))
           (passed-cons _ _ (le-ltb _ _ (f .requests-most))
           (passed-cons _ _ (neither-of (same-false _ _ (f .requests-at)) (neither-of (same-false _ _ (f .id-at)) (same-false _ _ (f .total-is))))
           (passed-cons _ _ (same-false _ _ (f .length-is ∙ sym (f .total-is)))
           (passed-cons _ _ (same-false _ _ (f .sum-is)) passed-nil))))))),
       passed-in-order _ _ _ _ (f .in-order),
-    )
+    ))
 
 -- ---- the contents
 
--- the writer refuses all contents but proper ones
-pub writable-proper : (c : Contents) → Writable c ↔ Proper c
+-- the writer refuses all contents but proper ones of a class of the table
+pub writable-proper : (table : List Prices) (c : Contents) → Writable table c ↔ ((c .header .«class» < length table) × Proper c)
 unfolding contents-conditions setup-conditions
-writable-proper c = (to, from)
+writable-proper table c = (to, from)
   where
-    to : Writable c → Proper c
+    to : Writable table c → (c .header .«class» < length table) × Proper c
     to w =
-        let f = first-passed (contents-conditions c) .0 w in
-        let (few, as-many) = either-false _ _ (f 3) in
-        record {
-          setup = allowed _ (f 0) (f 1) (f 2);
-          requests-most = ltb-false _ _ few;
-          as-many = sym (differ-false _ _ as-many);
-          in-order = in-order-of _ _ _ _ (first-passed _ .1 (λ i. f (suc (suc (suc (suc i))))));
-        }
+        let f = first-passed (contents-conditions table c) .0 w in
+        let (few, as-many) = either-false _ _ (f 3) in (
+          leb-false _ _ (f 0),
+          record {
+            setup = allowed _ (f 1) (f 2);
+            requests-most = ltb-false _ _ few;
+            as-many = sym (differ-false _ _ as-many);
+            in-order = in-order-of _ _ _ _ (first-passed _ .1 (λ i. f (suc (suc (suc (suc i))))));
+          },
+        )
 
-    from : Proper c → Writable c
-    from f =
-        passed-setup _ _ (f .setup)
+    from : (c .header .«class» < length table) × Proper c → Writable table c
+    from (l, f) =
+        passed-setup table _ _ l (f .setup)
         (passed-cons _ _ (neither-of (le-ltb _ _ (f .requests-most)) (same-false _ _ (sym (f .as-many))))
         (passed-in-order _ _ _ _ (f .in-order)))
 

@@ -1,14 +1,16 @@
 -- What the answers of reader and writer mean, of the log and of lent outputs.
 use mathlib.Core.List.{List, [], _∷_}
 use mathlib.Core.Path.{_≡_, refl, sym, ap, _∙_}
-use Prim.Native.Nat.{ℕ, _+_, _*_, _≤_}
+use Prim.Native.Nat.{ℕ, _+_, _*_, _≤_, _<_}
 use native.Mathlib.Omega.{arith}
 use borrow.Author.Tests.{ltb-false, le-ltb}
-use Rattle.base.specs.Refusals.{first, short}
-use Rattle.base.specs.RefusalLaws.{append-passed, first-passed, first-append, otherwise}
+use Rattle.base.specs.Refusals.{first, from, otherwise, short}
+use Rattle.base.specs.RefusalLaws.{from-otherwise, otherwise-assoc, otherwise-passed, append-passed, first-passed, first-append}
 use Rattle.base.specs.declared.Refusal.{Refusal}
 use Rattle.base.specs.declared.Verdict.{Verdict}
 use Rattle.base.specs.declared.Verdict.the-variants.{Passed, Refused}
+use Rattle.prices.specs.declared.Prices.{Prices}
+use Rattle.prices.specs.Tariff.{Tariff, tariff}
 use Rattle.log.specs.declared.Decoded.{Decoded}
 use Rattle.log.specs.declared.ReadOutcome.the-variants as read
 use Rattle.log.specs.Sizes.{most-requests}
@@ -20,35 +22,55 @@ use Rattle.log.specs.AcceptedLaws.{accepted-sound, writable-proper}
 use Rattle.log.specs.Ranges.{Proper}
 use lib.ListN.{length}
 
+-- the reader's verdict and the writer's part by part, as the code comes by them
+pub read-parts : (v : Verdict) (table : List Prices) (s : List ℕ) (seconds servers : ℕ)
+    → read-verdict (tariff v table) s seconds servers ≡ from (verdict-of (tariff v table) s) (short (request-count s) seconds ∷ short (request-count s) servers ∷ [])
+unfolding read-verdict verdict-of
+read-parts v table s seconds servers =
+    let room = short (request-count s) seconds ∷ short (request-count s) servers ∷ [] in
+    ap (otherwise v) (first-append (log-conditions table s) room)
+    ∙ otherwise-assoc v (first (log-conditions table s)) (first room)
+    ∙ sym (from-otherwise (otherwise v (first (log-conditions table s))) room)
+
+pub write-parts : (v : Verdict) (table : List Prices) (c : Contents) (log : ℕ)
+    → write-verdict (tariff v table) c log ≡ otherwise (otherwise v (first (contents-conditions table c))) (first (short (length-for (length (c .seconds))) log ∷ []))
+unfolding write-verdict
+write-parts v table c log =
+    ap (otherwise v) (first-append (contents-conditions table c) _) ∙ otherwise-assoc v (first (contents-conditions table c)) _
+
 -- a log that is read is accepted, and both lists are long enough
-pub read-passed : (s : List ℕ) (seconds servers : ℕ) → read-verdict s seconds servers ≡ Passed
-    → Accepted s × (request-count s ≤ seconds) × (request-count s ≤ servers)
+pub read-passed : (t : Tariff) (s : List ℕ) (seconds servers : ℕ) → read-verdict t s seconds servers ≡ Passed
+    → Accepted t s × (request-count s ≤ seconds) × (request-count s ≤ servers)
 unfolding read-verdict verdict-of Accepted
-read-passed s seconds servers e =
-    let parts = append-passed (log-conditions s) _ .0 e in
+read-passed t s seconds servers e =
+    let (j, all) = otherwise-passed (t .judged) _ e in
+    let parts = append-passed (log-conditions (t .table) s) _ .0 all in
     let room = first-passed (short (request-count s) seconds ∷ short (request-count s) servers ∷ []) .0 (parts .1) in
-    (parts .0, ltb-false seconds (request-count s) (room 0), ltb-false servers (request-count s) (room 1))
+    (rw j (parts .0), ltb-false seconds (request-count s) (room 0), ltb-false servers (request-count s) (room 1))
 
 -- an accepted log is read into lists that are long enough
-pub read-passes : (s : List ℕ) (seconds servers : ℕ) → Accepted s → request-count s ≤ seconds → request-count s ≤ servers
-    → read-verdict s seconds servers ≡ Passed
+pub read-passes : (t : Tariff) (s : List ℕ) (seconds servers : ℕ) → Accepted t s → request-count s ≤ seconds → request-count s ≤ servers
+    → read-verdict t s seconds servers ≡ Passed
 unfolding read-verdict verdict-of Accepted first
-read-passes s seconds servers a p q =
-    append-passed (log-conditions s) _ .1 (a, rw (le-ltb seconds (request-count s) p, le-ltb servers (request-count s) q))
+read-passes t s seconds servers a p q =
+    let (j, all) = otherwise-passed (t .judged) _ a in
+    rw j (append-passed (log-conditions (t .table) s) _ .1 (all, rw (le-ltb seconds (request-count s) p, le-ltb servers (request-count s) q)))
 
 -- lists of the most requests are long enough for the requests of every accepted log
-pub read-long : (s : List ℕ) (a b : ℕ) → a ≡ most-requests → b ≡ most-requests → read-verdict s a b ≡ verdict-of s
+pub read-long : (t : Tariff) (s : List ℕ) (a b : ℕ) → a ≡ most-requests → b ≡ most-requests → read-verdict t s a b ≡ verdict-of t s
 unfolding read-verdict verdict-of Accepted first
-read-long s a b e f = first-append (log-conditions s) _ ∙ go (verdict-of s) refl
+read-long t s a b e f = ap (otherwise (t .judged)) (first-append (log-conditions (t .table) s) _) ∙ go (t .judged) refl (first (log-conditions (t .table) s)) refl
   where
-    two : Accepted s → first (short (request-count s) a ∷ short (request-count s) b ∷ []) ≡ Passed
+    two : Accepted t s → first (short (request-count s) a ∷ short (request-count s) b ∷ []) ≡ Passed
     two z =
-        let m = accepted-sound s z .requests-most in
+        let m = accepted-sound t s z .requests-most in
         rw (le-ltb a (request-count s) (omega arith), le-ltb b (request-count s) (omega arith))
 
-    go : (v : Verdict) → verdict-of s ≡ v → otherwise (verdict-of s) (first (short (request-count s) a ∷ short (request-count s) b ∷ [])) ≡ verdict-of s
-    go Passed z = rw (z, two z)
-    go (Refused r) z = rw z
+    go : (u : Verdict) → t .judged ≡ u → (v : Verdict) → first (log-conditions (t .table) s) ≡ v
+        → otherwise u (otherwise v (first (short (request-count s) a ∷ short (request-count s) b ∷ []))) ≡ otherwise u v
+    go (Refused r) y v z = refl
+    go Passed y (Refused r) z = refl
+    go Passed y Passed z = two (rw y z)
 
 -- a reader's answer that has a number of requests: the log is accepted, and has as many
 pub decoded-requests : (v : Verdict) (log : List ℕ) (d : Decoded) (n : ℕ) → d ≡ decoded v log → d .outcome ≡ read.Requests n
@@ -65,23 +87,26 @@ unfolding decoded
 decoded-refused Passed log d r e f = absurd (let z : _≡_ {A = ℕ} 0 1 = cc in omega arith)
 decoded-refused (Refused r′) log d r e f = cc
 
--- contents that are written are proper, and the log is long enough
-pub write-passed : (c : Contents) (log : ℕ) → write-verdict c log ≡ Passed → Proper c × (length-for (length (c .seconds)) ≤ log)
+-- contents that are written are proper and of a class of the table, and the log is long enough
+pub write-passed : (t : Tariff) (c : Contents) (log : ℕ) → write-verdict t c log ≡ Passed
+    → (c .header .«class» < length (t .table)) × Proper c × (length-for (length (c .seconds)) ≤ log)
 unfolding write-verdict
-write-passed c log e =
-    let parts = append-passed (contents-conditions c) _ .0 e in
+write-passed t c log e =
+    let parts = append-passed (contents-conditions (t .table) c) _ .0 (otherwise-passed (t .judged) _ e .1) in
     let room = first-passed (short (length-for (length (c .seconds))) log ∷ []) .0 (parts .1) in
-    (writable-proper c .0 (parts .0), ltb-false log (length-for (length (c .seconds))) (room 0))
+    let (l, f) = writable-proper (t .table) c .0 (parts .0) in
+    (l, f, ltb-false log (length-for (length (c .seconds))) (room 0))
 
--- proper contents are written into a log that is long enough
-pub write-passes : (c : Contents) (log : ℕ) → Proper c → length-for (length (c .seconds)) ≤ log → write-verdict c log ≡ Passed
+-- proper contents are written into a log that is long enough, if the price file is not refused
+pub write-passes : (t : Tariff) (c : Contents) (log : ℕ) → t .judged ≡ Passed → c .header .«class» < length (t .table) → Proper c → length-for (length (c .seconds)) ≤ log
+    → write-verdict t c log ≡ Passed
 unfolding write-verdict first
-write-passes c log f l = append-passed (contents-conditions c) _ .1 (writable-proper c .1 f, rw (le-ltb log _ l))
+write-passes t c log j k f l = rw j (append-passed (contents-conditions (t .table) c) _ .1 (writable-proper (t .table) c .1 (k, f), rw (le-ltb log _ l)))
 
 -- so both lists have one length of at most as many as a log can have, and the log has room
-pub write-room : (c : Contents) (log : ℕ) → write-verdict c log ≡ Passed
+pub write-room : (t : Tariff) (c : Contents) (log : ℕ) → write-verdict t c log ≡ Passed
     → (length (c .seconds) ≡ length (c .servers)) × (length (c .seconds) ≤ most-requests) × (40 + 6 * length (c .seconds) ≤ log)
 unfolding length-for
-write-room c log e =
-    let (f, room) = write-passed c log e in
+write-room t c log e =
+    let (l, f, room) = write-passed t c log e in
     (sym (f .as-many), f .requests-most, room)

@@ -2,10 +2,11 @@
 use mathlib.Core.List.{List, [], _∷_, _++_}
 use Prim.Native.Nat.{ℕ}
 use lib.ListN.{length, replicate}
-use Rattle.base.specs.Refusals.{first, short}
+use Rattle.base.specs.Refusals.{first, otherwise, short}
 use Rattle.base.specs.Lent.{lent}
 use Rattle.base.specs.declared.Verdict.{Verdict}
 use Rattle.base.specs.declared.Verdict.the-variants.{Passed, Refused}
+use Rattle.prices.specs.Tariff.{Tariff}
 use Rattle.log.specs.declared.Header.{Header}
 use Rattle.log.specs.declared.ReadOutcome.the-variants as read
 use Rattle.log.specs.declared.Decoded.{Decoded}
@@ -15,10 +16,10 @@ use Rattle.log.specs.Fields.{header-of, request-count, length-for, secon
 use Rattle.log.specs.Conditions.{log-conditions}
 use Rattle.log.specs.Contents.{Contents, contents-conditions, encode}
 
--- a reader's conditions: the log's, then 31 for seconds and for servers, given the lengths of the lent lists
-unfoldable pub read-verdict : List ℕ → ℕ → ℕ → Verdict
-read-verdict s seconds servers =
-    first (log-conditions s ++ (short (request-count s) seconds ∷ short (request-count s) servers ∷ []))
+-- a reader's conditions: the price file's, the log's, then 31 for seconds and for servers, given the lengths of the lent lists
+unfoldable pub read-verdict : Tariff → List ℕ → ℕ → ℕ → Verdict
+read-verdict t s seconds servers =
+    otherwise (t .judged) (first (log-conditions (t .table) s ++ (short (request-count s) seconds ∷ short (request-count s) servers ∷ [])))
 
 -- the header of a refused log
 unfoldable pub no-header : Header
@@ -30,15 +31,15 @@ decoded Passed s = record { header = header-of s; outcome = read.Requests (reque
 decoded (Refused r) s = record { header = no-header; outcome = read.Refused r }
 
 -- what the lent lists hold at the end
-abbrev pub seconds-left : List ℕ → List ℕ → List ℕ → List ℕ
-seconds-left log seconds servers = lent (read-verdict log (length seconds) (length servers)) (seconds-of log) seconds
+abbrev pub seconds-left : Tariff → List ℕ → List ℕ → List ℕ → List ℕ
+seconds-left t log seconds servers = lent (read-verdict t log (length seconds) (length servers)) (seconds-of log) seconds
 
-abbrev pub servers-left : List ℕ → List ℕ → List ℕ → List ℕ
-servers-left log seconds servers = lent (read-verdict log (length seconds) (length servers)) (servers-of log) servers
+abbrev pub servers-left : Tariff → List ℕ → List ℕ → List ℕ → List ℕ
+servers-left t log seconds servers = lent (read-verdict t log (length seconds) (length servers)) (servers-of log) servers
 
--- a writer's conditions: those on what is to be written, then 31 for the log, given its length
-unfoldable pub write-verdict : Contents → ℕ → Verdict
-write-verdict c log = first (contents-conditions c ++ (short (length-for (length (c .seconds))) log ∷ []))
+-- a writer's conditions: the price file's, those on what is to be written, then 31 for the log, given its length
+unfoldable pub write-verdict : Tariff → Contents → ℕ → Verdict
+write-verdict t c log = otherwise (t .judged) (first (contents-conditions (t .table) c ++ (short (length-for (length (c .seconds))) log ∷ [])))
 
 -- the writer's answer by its verdict: the log's length, or the refusal
 unfoldable pub written : Verdict → Contents → Written
@@ -46,5 +47,5 @@ written Passed c = write.Length (length-for (length (c .seconds)))
 written (Refused r) c = write.Refused r
 
 -- what the lent log holds at the end
-abbrev pub log-left : Contents → List ℕ → List ℕ
-log-left c log = lent (write-verdict c (length log)) (encode c) log
+abbrev pub log-left : Tariff → Contents → List ℕ → List ℕ
+log-left t c log = lent (write-verdict t c (length log)) (encode c) log

@@ -5,12 +5,14 @@ use mathlib.Core.Path.{_≡_, ap, sym, _∙_}
 use Prim.Native.Nat.{ℕ, suc, _+_, _*_, _<_}
 use lib.Dec.{eqb}
 use lib.ListN.{getD}
-use Rattle.base.specs.Refusals.{Condition, refuse, first, each}
-use Rattle.base.specs.RefusalLaws.{each-suc, first-append, otherwise}
+use Rattle.base.specs.Refusals.{Condition, refuse, first, from, each, otherwise}
+use Rattle.base.specs.RefusalLaws.{each-suc, first-append, from-otherwise, otherwise-assoc}
 use Rattle.base.specs.declared.Verdict.{Verdict}
 use Rattle.base.specs.declared.Verdict.the-variants.{Passed}
 use Rattle.base.specs.Bytes.{le16, le32}
 use Rattle.base.specs.Lists.{build-at}
+use Rattle.prices.specs.declared.Prices.{Prices}
+use Rattle.prices.specs.Tariff.{tariff}
 use Rattle.log.specs.Fields.{server-count, request-count, seconds-of, servers-of, written-sum}
 use Rattle.log.specs.Sum.{sum-of}
 use Rattle.log.specs.Conditions.{form-conditions, header-conditions, before, request-check, request-conditions, log-conditions, verdict-of}
@@ -45,10 +47,15 @@ unfolding request-conditions
 list-found count seconds servers i earlier place v p q e = rw (← p, ← q) (sym e)
 
 -- the verdict part by part: 1 to 9, 10, then the requests
-pub verdict-parts : (s : List ℕ)
-    → verdict-of s
-    ≡ otherwise (otherwise (first (form-conditions s)) (first (refuse 10 0 (not (eqb (written-sum s) (sum-of s))) ∷ []))) (first (each (log-requests s) (request-count s)))
+pub verdict-parts : (v : Verdict) (table : List Prices) (s : List ℕ)
+    → verdict-of (tariff v table) s
+    ≡ otherwise (otherwise (from v (form-conditions table s)) (first (refuse 10 0 (not (eqb (written-sum s) (sum-of s))) ∷ []))) (first (each (log-requests s) (request-count s)))
 unfolding verdict-of log-conditions header-conditions
-verdict-parts s =
-    first-append (header-conditions s) (each (log-requests s) (request-count s))
-    ∙ ap (λ (v : Verdict). otherwise v (first (each (log-requests s) (request-count s)))) (first-append (form-conditions s) _)
+verdict-parts judged table s =
+    let form = form-conditions table s in
+    let sum = refuse 10 0 (not (eqb (written-sum s) (sum-of s))) ∷ [] in
+    let requests = first (each (log-requests s) (request-count s)) in
+    ap (otherwise judged) (first-append (header-conditions table s) (each (log-requests s) (request-count s)) ∙ ap (λ (v : Verdict). otherwise v requests) (first-append form sum))
+    ∙ otherwise-assoc judged (otherwise (first form) (first sum)) requests
+    ∙ ap (λ (v : Verdict). otherwise v requests)
+    (otherwise-assoc judged (first form) (first sum) ∙ ap (λ (v : Verdict). otherwise v (first sum)) (sym (from-otherwise judged form)))

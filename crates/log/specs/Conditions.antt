@@ -6,30 +6,32 @@ use Prim.Native.Nat.{ℕ, zero, suc}
 use lib.Dec.{leb, ltb, eqb}
 use lib.ListN.{getD, length}
 use Rattle.base.specs.Choice.{either}
-use Rattle.base.specs.Refusals.{Condition, refuse, first, each}
+use Rattle.base.specs.Refusals.{Condition, refuse, first, otherwise, each}
 use Rattle.base.specs.declared.Verdict.{Verdict}
 use Rattle.base.specs.declared.Verdict.the-variants.{Passed}
 use Rattle.base.specs.Bytes.{byte}
+use Rattle.prices.specs.declared.Prices.{Prices}
+use Rattle.prices.specs.Tariff.{Tariff}
 use Rattle.log.specs.declared.Setup.{Setup}
 use Rattle.log.specs.Sizes.{most-requests}
 use Rattle.log.specs.Fields.{version, server-count, setup-of, request-count, requests-offset, id-offset, total-length, written-sum, length-for, seconds-of, servers-of}
 use Rattle.log.specs.Sum.{sum-of}
 
--- 3 asks for a class up to 7, 4 for 1 to 64 servers, 5 for a home among them
-unfoldable pub setup-conditions : Setup → List Condition
-setup-conditions s =
-    refuse 3 0 (ltb 7 (s .«class»))
+-- 3 asks for a class of the table, 4 for 1 to 64 servers, 5 for a home among them
+unfoldable pub setup-conditions : List Prices → Setup → List Condition
+setup-conditions table s =
+    refuse 3 0 (leb (length table) (s .«class»))
     ∷ refuse 4 0 (either (eqb (s .«server_count») 0) (ltb 64 (s .«server_count»)))
     ∷ refuse 5 0 (leb (s .«server_count») (s .home))
     ∷ []
 
 -- 1 under 40 bytes; 2 version not 1; 3 to 5; 6 byte 5 not zero; 7 request count above 2,048; 8 an offset or the total not as the
 -- format says; 9 file length not the total
-abbrev pub form-conditions : List ℕ → List Condition
-form-conditions s =
+abbrev pub form-conditions : List Prices → List ℕ → List Condition
+form-conditions table s =
     refuse 1 0 (ltb (length s) 40)
     ∷ refuse 2 0 (not (eqb (version s) 1))
-    ∷ (setup-conditions (setup-of s)
+    ∷ (setup-conditions table (setup-of s)
     ++ (refuse 6 0 (not (eqb (byte s 5) 0))
     ∷ refuse 7 0 (ltb most-requests (request-count s))
     ∷ refuse 8 0
@@ -39,8 +41,8 @@ form-conditions s =
     ∷ []))
 
 -- 1 to 9, then 10 the sum
-unfoldable pub header-conditions : List ℕ → List Condition
-header-conditions s = form-conditions s ++ (refuse 10 0 (not (eqb (written-sum s) (sum-of s))) ∷ [])
+unfoldable pub header-conditions : List Prices → List ℕ → List Condition
+header-conditions table s = form-conditions table s ++ (refuse 10 0 (not (eqb (written-sum s) (sum-of s))) ∷ [])
 
 -- the second before request i, from 0; 0 before the first
 unfoldable pub before : List ℕ → ℕ → ℕ
@@ -61,15 +63,15 @@ request-conditions count seconds servers i =
     request-check count (getD servers i 0) (getD seconds i 0) (before seconds i) (suc i)
 
 -- all conditions on a log: the header's, then request by request
-unfoldable pub log-conditions : List ℕ → List Condition
-log-conditions s =
-    header-conditions s
+unfoldable pub log-conditions : List Prices → List ℕ → List Condition
+log-conditions table s =
+    header-conditions table s
     ++ each (request-conditions (server-count s) (seconds-of s) (servers-of s)) (request-count s)
 
--- what the bytes of a log are answered: refused by the first condition that holds
-unfoldable pub verdict-of : List ℕ → Verdict
-verdict-of s = first (log-conditions s)
+-- what the bytes of a log are answered: what its price file is, else refused by the first condition that holds
+unfoldable pub verdict-of : Tariff → List ℕ → Verdict
+verdict-of t s = otherwise (t .judged) (first (log-conditions (t .table) s))
 
 -- an accepted log: no condition holds
-unfoldable pub Accepted : List ℕ → Type 0
-Accepted s = verdict-of s ≡ Passed
+unfoldable pub Accepted : Tariff → List ℕ → Type 0
+Accepted t s = verdict-of t s ≡ Passed

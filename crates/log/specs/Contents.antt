@@ -7,6 +7,7 @@ use lib.ListN.{getD, length, take}
 use Rattle.base.specs.Choice.{either}
 use Rattle.base.specs.Refusals.{Condition, refuse, each}
 use Rattle.base.specs.Bytes.{bytes}
+use Rattle.prices.specs.declared.Prices.{Prices}
 use Rattle.log.specs.declared.Setup.{Setup}
 use Rattle.log.specs.declared.Header.{Header}
 use Rattle.log.specs.Sizes.{most-requests}
@@ -57,9 +58,9 @@ abbrev pub setup-in : Header → Setup
 setup-in h = record { «class» = h .«class»; «server_count» = h .«server_count»; home = h .home }
 
 -- what the writer refuses: 3 to 5, 7 above 2,048 requests or lists of unequal length, and 11 to 13 request by request
-unfoldable pub contents-conditions : Contents → List Condition
-contents-conditions c =
-    setup-conditions (setup-in (c .header))
+unfoldable pub contents-conditions : List Prices → Contents → List Condition
+contents-conditions table c =
+    setup-conditions table (setup-in (c .header))
     ++ (refuse 7 0 (either (ltb most-requests (length (c .seconds))) (not (eqb (length (c .seconds)) (length (c .servers)))))
     ∷ each (request-conditions (c .header .«server_count») (c .seconds) (c .servers)) (length (c .seconds)))
 

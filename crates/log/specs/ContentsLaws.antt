@@ -1,6 +1,6 @@
 -- The conditions on what is to be written, part by part, as the code comes by them.
 use mathlib.Core.Bool.{Bool, true, false, not}
-use mathlib.Core.List.{[], _∷_, _++_, append-assoc}
+use mathlib.Core.List.{List, [], _∷_, _++_, append-assoc}
 use mathlib.Core.Path.{_≡_, refl, ap, sym, _∙_}
 use Prim.Native.Nat.{ℕ, _≤_}
 use native.Mathlib.Omega.{arith}
@@ -8,10 +8,11 @@ use lib.Dec.{ltb, eqb}
 use lib.ListN.{length}
 use borrow.Author.Tests.{ltb-false, eqb-true, not-false}
 use Rattle.base.specs.Choice.{either}
-use Rattle.base.specs.Refusals.{Condition, refuse, first, each, or-else, from}
-use Rattle.base.specs.RefusalLaws.{first-append, otherwise, from-first, from-append}
+use Rattle.base.specs.Refusals.{Condition, refuse, first, each, or-else, from, otherwise}
+use Rattle.base.specs.RefusalLaws.{first-append, from-append, from-otherwise, otherwise-assoc}
 use Rattle.base.specs.declared.Verdict.{Verdict}
 use Rattle.base.specs.declared.Verdict.the-variants.{Passed, Refused}
+use Rattle.prices.specs.declared.Prices.{Prices}
 use Rattle.log.specs.Sizes.{most-requests}
 use Rattle.log.specs.Conditions.{setup-conditions, request-conditions}
 use Rattle.log.specs.Contents.{Contents, setup-in, contents-conditions}
@@ -20,19 +21,19 @@ use Rattle.log.specs.Contents.{Contents, setup-in, contents-conditions}
 abbrev pub lengths-condition : ℕ → ℕ → Condition
 lengths-condition n m = refuse 7 0 (either (ltb most-requests n) (not (eqb n m)))
 
-pub contents-parts : (c : Contents)
-    → first (contents-conditions c)
+pub contents-parts : (v : Verdict) (table : List Prices) (c : Contents)
+    → otherwise v (first (contents-conditions table c))
     ≡ otherwise
-    (or-else (from Passed (setup-conditions (setup-in (c .header)))) (lengths-condition (length (c .seconds)) (length (c .servers))))
+    (or-else (from v (setup-conditions table (setup-in (c .header)))) (lengths-condition (length (c .seconds)) (length (c .servers))))
     (first (each (request-conditions (c .header .«server_count») (c .seconds) (c .servers)) (length (c .seconds))))
 unfolding contents-conditions from
-contents-parts c =
-    let setup = setup-conditions (setup-in (c .header)) in
+contents-parts judged table c =
+    let setup = setup-conditions table (setup-in (c .header)) in
     let seven = lengths-condition (length (c .seconds)) (length (c .servers)) ∷ [] in
     let rest = each (request-conditions (c .header .«server_count») (c .seconds) (c .servers)) (length (c .seconds)) in
-    ap first (sym (append-assoc setup seven rest))
-    ∙ first-append (setup ++ seven) rest
-    ∙ ap (λ (v : Verdict). otherwise v (first rest)) (sym (from-first (setup ++ seven)) ∙ from-append Passed setup seven)
+    ap (otherwise judged) (ap first (sym (append-assoc setup seven rest)) ∙ first-append (setup ++ seven) rest)
+    ∙ otherwise-assoc judged (first (setup ++ seven)) (first rest)
+    ∙ ap (λ (v : Verdict). otherwise v (first rest)) (sym (from-otherwise judged (setup ++ seven)) ∙ from-append judged setup seven)
 
 -- a condition that did not refuse does not hold
 pub or-else-passed : (v : Verdict) (c : Condition) → or-else v c ≡ Passed → c .holds ≡ false

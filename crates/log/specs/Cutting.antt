@@ -9,11 +9,12 @@ use lib.Seq.{take-all, length-take-le, getD-take}
 use Rattle.base.specs.Choice.{le-or-lt}
 use Rattle.base.specs.Bytes.{byte, Are-bytes}
 use Rattle.base.specs.Lists.{build-at}
-use Rattle.log.specs.Fields.{request-count, id-of, seconds-of, servers-of, header-of}
+use Rattle.prices.specs.Tariff.{Tariff}
+use Rattle.log.specs.Fields.{class-of, request-count, id-of, seconds-of, servers-of, header-of}
 use Rattle.log.specs.Conditions.{before, Accepted}
 use Rattle.log.specs.Contents.{Contents, decode, encode, first-requests, cut}
 use Rattle.log.specs.Ranges.{Proper, Sixteen}
-use Rattle.log.specs.AcceptedLaws.{seconds-length, servers-length, id-length}
+use Rattle.log.specs.AcceptedLaws.{accepted-judged, accepted-class, seconds-length, servers-length, id-length}
 use Rattle.log.specs.EncodeLaws.{encode-count}
 use Rattle.log.specs.RoundTrip.{decode-encode, encode-accepted, encode-decode, decode-sixteen, decode-proper, encode-bytes}
 
@@ -42,20 +43,20 @@ first-proper k c h f = record {
     many = length-take-le k (c .seconds) h
 
 -- an accepted log s, and k of its requests
-module _ (s : List ℕ) (k : ℕ) (a : Accepted s) (h : k ≤ request-count s) where
+module _ (t : Tariff) (s : List ℕ) (k : ℕ) (a : Accepted t s) (h : k ≤ request-count s) where
   -- the first k are proper
   cut-proper : Proper (first-requests k (decode s))
   unfolding decode
-  cut-proper = first-proper k (decode s) (rw (seconds-length s) h) (decode-proper s a)
+  cut-proper = first-proper k (decode s) (rw (seconds-length s) h) (decode-proper t s a)
 
   cut-sixteen : Sixteen (first-requests k (decode s))
   unfolding first-requests
   cut-sixteen = decode-sixteen s
 
   -- a cut log is accepted
-  pub cut-accepted : Accepted (cut k s)
-  unfolding cut
-  cut-accepted = encode-accepted _ cut-proper cut-sixteen
+  pub cut-accepted : Accepted t (cut k s)
+  unfolding cut first-requests decode header-of
+  cut-accepted = encode-accepted t _ (accepted-judged t s a) (accepted-class t s a) cut-proper cut-sixteen
 
   -- it says the first k requests, with the same header
   pub cut-decodes : decode (cut k s) ≡ first-requests k (decode s)
@@ -79,9 +80,9 @@ id-bytes s b i = go (le-or-lt 16 i)
     go (inr l) = omega (arith, build-at 16 (λ j. byte s (24 + j)) i 0 l, b (24 + i))
 
 -- a cut log of bytes is of bytes
-pub cut-bytes : (s : List ℕ) (k : ℕ) → Accepted s → k ≤ request-count s → Are-bytes s → Are-bytes (cut k s)
-unfolding cut first-requests decode header-of
-cut-bytes s k a h b = encode-bytes _ (cut-proper s k a h) (id-bytes s b)
+pub cut-bytes : (t : Tariff) (s : List ℕ) (k : ℕ) → Accepted t s → k ≤ request-count s → Are-bytes s → Are-bytes (cut k s)
+unfolding cut first-requests decode header-of class-of
+cut-bytes t s k a h b = encode-bytes _ (b 2) (cut-proper t s k a h) (id-bytes s b)
 
 -- all requests of a log are those it says
 first-all : (s : List ℕ) → first-requests (request-count s) (decode s) ≡ decode s
@@ -93,6 +94,6 @@ first-all s =
     )
 
 -- a log of bytes cut to all its requests is the log
-pub cut-all : (s : List ℕ) → Accepted s → Are-bytes s → cut (request-count s) s ≡ s
+pub cut-all : (t : Tariff) (s : List ℕ) → Accepted t s → Are-bytes s → cut (request-count s) s ≡ s
 unfolding cut
-cut-all s a b = ap encode (first-all s) ∙ encode-decode s a b
+cut-all t s a b = ap encode (first-all s) ∙ encode-decode t s a b

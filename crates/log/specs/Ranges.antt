@@ -6,6 +6,7 @@ use lib.ListN.{getD, length}
 use Rattle.base.specs.declared.Verdict.the-variants.{Passed}
 use Rattle.base.specs.Bytes.{byte}
 use Rattle.base.specs.Refusals.{first}
+use Rattle.prices.specs.declared.Prices.{Prices}
 use Rattle.log.specs.declared.Setup.{Setup}
 use Rattle.log.specs.Sizes.{most-requests}
 use Rattle.log.specs.Fields.{version, server-count, setup-of, request-count, requests-offset, id-offset, total-length, written-sum, length-for, seconds-of, servers-of}
@@ -13,9 +14,8 @@ use Rattle.log.specs.Sum.{sum-of}
 use Rattle.log.specs.Conditions.{before}
 use Rattle.log.specs.Contents.{Contents, setup-in, contents-conditions}
 
--- class, server count and home are in range
+-- server count and home are in range
 pub record Allowed (s : Setup) : Type 0 where
-  pub class-most : s .«class» ≤ 7
   pub servers-least : 1 ≤ s .«server_count»
   pub servers-most : s .«server_count» ≤ 64
   pub home-below : s .home < s .«server_count»
@@ -27,7 +27,7 @@ pub record In-order (count : ℕ) (seconds servers : List ℕ) (i : ℕ) : Type 
   pub second-most : getD seconds i 0 ≤ 4000000
   pub later : before seconds i < getD seconds i 0
 
--- a log that is as the format says
+-- a log that is as the format says, of any class
 pub record Sound (s : List ℕ) : Type 0 where
   pub version-is : version s ≡ 1
   pub setup : Allowed (setup-of s)
@@ -40,7 +40,7 @@ pub record Sound (s : List ℕ) : Type 0 where
   pub sum-is : written-sum s ≡ sum-of s
   pub in-order : (i : ℕ) → i < request-count s → In-order (server-count s) (seconds-of s) (servers-of s) i
 
--- contents that a log can say
+-- contents that a log can say, of any class
 pub record Proper (c : Contents) : Type 0 where
   pub setup : Allowed (setup-in (c .header))
   pub requests-most : length (c .seconds) ≤ most-requests
@@ -48,8 +48,8 @@ pub record Proper (c : Contents) : Type 0 where
   pub in-order : (i : ℕ) → i < length (c .seconds) → In-order (c .header .«server_count») (c .seconds) (c .servers) i
 
 -- contents that the writer does not refuse
-abbrev pub Writable : Contents → Type 0
-Writable c = first (contents-conditions c) ≡ Passed
+abbrev pub Writable : List Prices → Contents → Type 0
+Writable table c = first (contents-conditions table c) ≡ Passed
 
 -- the id has sixteen elements
 abbrev pub Sixteen : Contents → Type 0

@@ -6,8 +6,10 @@ use native.Mathlib.Omega.{arith}
 use lib.ListN.{length, getD, take, drop, length-drop, take-append-drop}
 use lib.Seq.{drop-at, length-take-le, take-all, take-suc, take-add, getD-drop}
 use Rattle.base.specs.Bytes.{byte, le16, le32, bytes, Are-bytes}
+use Rattle.base.specs.declared.Verdict.the-variants.{Passed}
 use Rattle.base.specs.BytesLaws.{bytes-small, bytes-le16, bytes-le32}
 use Rattle.base.specs.Lists.{build-same, build-read}
+use Rattle.prices.specs.Tariff.{Tariff}
 use Rattle.log.specs.declared.Header.{Header}
 use Rattle.log.specs.Fields.{version, class-of, server-count, home-of, request-count, requests-offset, id-offset, total-length, written-sum, id-of, length-for, seconds-of, servers-of, header-of}
 use Rattle.log.specs.Sum.{sum-of}
@@ -25,12 +27,12 @@ unfolding decode
 decode-encode c f h = rw (encode-header c h, encode-seconds c h f, encode-servers c h f)
 
 -- what is written is accepted
-pub encode-accepted : (c : Contents) → Proper c → Sixteen c → Accepted (encode c)
+pub encode-accepted : (t : Tariff) (c : Contents) → t .judged ≡ Passed → c .header .«class» < length (t .table) → Proper c → Sixteen c → Accepted t (encode c)
 unfolding length-for
-encode-accepted c f h =
+encode-accepted t c j l f h =
     let count = encode-count c (omega (arith, f .requests-most)) in
     let total = encode-total c (omega (arith, f .requests-most)) in
-    sound-accepted (encode c) (record {
+    sound-accepted t (encode c) j (rw (encode-class c) l) (record {
       version-is = encode-version c;
       setup = rw (encode-class c, encode-server-count c, encode-home c) (f .setup);
       zero-is = encode-zero c;
@@ -51,10 +53,10 @@ unfolding decode header-of
 decode-sixteen s = id-length s
 
 -- what was read from an accepted log is proper
-pub decode-proper : (s : List ℕ) → Accepted s → Proper (decode s)
+pub decode-proper : (t : Tariff) (s : List ℕ) → Accepted t s → Proper (decode s)
 unfolding decode header-of
-decode-proper s a =
-    let f = accepted-sound s a in
+decode-proper t s a =
+    let f = accepted-sound t s a in
     record {
       setup = f .setup;
       requests-most = rw (seconds-length s) (f .requests-most);
@@ -143,8 +145,8 @@ module _ (s : List ℕ) (f : Sound s) (b : Are-bytes s) where
       (sym (append-assoc (take 20 s) (bytes 4 (sum-of s)) (drop 24 s)) ∙ rw (← sum-read) (take-append-drop 24 s))
 
 -- an accepted log of bytes is written as it was
-pub encode-decode : (s : List ℕ) → Accepted s → Are-bytes s → encode (decode s) ≡ s
-encode-decode s a b = encode-read s (accepted-sound s a) b
+pub encode-decode : (t : Tariff) (s : List ℕ) → Accepted t s → Are-bytes s → encode (decode s) ≡ s
+encode-decode t s a b = encode-read s (accepted-sound t s a) b
 
 -- ---- what is written are bytes
 
@@ -178,15 +180,15 @@ requests-are seconds servers zero = none
 requests-are seconds servers (suc k) =
     joined (requests-are seconds servers k) (joined (number 4 (getD seconds k 0)) (number 2 (getD servers k 0)))
 
-head-is : (h : Header) (n : ℕ) → Allowed (setup-in h) → Bytes (head h n)
+head-is : (h : Header) (n : ℕ) → h .«class» < 256 → Allowed (setup-in h) → Bytes (head h n)
 unfolding head
-head-is h n f =
+head-is h n small f =
     joined (number 2 1) (more (omega arith) (more (omega arith) (more (omega arith) (more (omega arith)
     (joined (number 2 n) (joined (number 4 40) (joined (number 4 24) (number 4 (length-for n)))))))))
 
--- what is written are bytes, if the id is
-pub encode-bytes : (c : Contents) → Proper c → Are-bytes (c .header .id) → Are-bytes (encode c)
+-- what is written are bytes, if class and id are
+pub encode-bytes : (c : Contents) → c .header .«class» < 256 → Proper c → Are-bytes (c .header .id) → Are-bytes (encode c)
 unfolding encode body
-encode-bytes c f b =
-    bytes-at (joined (head-is (c .header) (length (c .seconds)) (f .setup))
+encode-bytes c small f b =
+    bytes-at (joined (head-is (c .header) (length (c .seconds)) small (f .setup))
     (joined (number 4 _) (joined (bytes-of (c .header .id) b) (requests-are (c .seconds) (c .servers) (length (c .seconds))))))

@@ -1,11 +1,13 @@
-// The conditions on a log and on what is to be written, in 01's order.
+// The conditions on a log and on what is to be written, in 01's order. Each comes after what the price file was answered.
 ghost use mathlib.Core.Path.{_≡_};
 ghost use mathlib.Core.Bool.{not};
 ghost use Prim.Native.Nat.{suc, _+_, _*_, _<_, _≤_};
 ghost use lib.Dec.{ltb, eqb};
 ghost use lib.ListN.{length};
 ghost use Rattle.base.specs.Choice.{either};
-ghost use Rattle.base.specs.Refusals.{first, each, from};
+ghost use Rattle.base.specs.Refusals.{first, otherwise, each, from};
+ghost use Rattle.prices.specs.PriceFile.{table-in};
+ghost use Rattle.prices.specs.Tariff.{tariff};
 ghost use Rattle.log.specs.Sizes.{most-requests};
 ghost use Rattle.log.specs.Fields.{server-count, request-count, requests-offset, id-offset, total-length, written-sum, length-for, seconds-of, servers-of};
 ghost use Rattle.log.specs.Sum.{sum-of};
@@ -28,6 +30,7 @@ use base::widths::size_from_u32;
 use base::widths::u16_from_u8;
 use base::widths::u32_from_u16;
 use base::widths::u64_from_size;
+use prices::class_count;
 
 // The most requests, as the header has them.
 const MOST: u16 = MOST_REQUESTS as u16;
@@ -43,10 +46,10 @@ fn count_outside(count: u8) -> bool
 }
 
 // 3 to 5.
-pub fn setup_fault(v: Verdict, setup: Setup) -> Verdict
-    ensures { λ r. ⌜ r ≡ from v (setup-conditions setup) ⌝ }
+pub fn setup_fault(v: Verdict, prices: &[u8], setup: Setup) -> Verdict
+    ensures { λ r. ⌜ r ≡ from v (setup-conditions (table-in (now (prices .entry))) setup) ⌝ }
 {
-    let v = or_else(v, 7 < setup.class, 3, 0);
+    let v = or_else(v, class_count(prices) <= u16_from_u8(setup.class), 3, 0);
     let v = or_else(v, count_outside(setup.server_count), 4, 0);
     or_else(v, setup.server_count <= setup.home, 5, 0)
 }
@@ -72,18 +75,18 @@ fn total_differs(log: &[u8]) -> bool
 }
 
 // 1 to 9.
-fn form_fault(log: &[u8]) -> Verdict
-    ensures { λ r. ⌜ r ≡ first (form-conditions (now (log .entry))) ⌝ }
+fn form_fault(v: Verdict, prices: &[u8], log: &[u8]) -> Verdict
+    ensures { λ r. ⌜ r ≡ from v (form-conditions (table-in (now (prices .entry))) (now (log .entry))) ⌝ }
 {
     let n = at16(log, 6);
-    let v = or_else(Verdict::Passed, log.len() < 40, 1, 0);
+    let v = or_else(v, log.len() < 40, 1, 0);
     let v = or_else(v, at16(log, 0) != 1, 2, 0);
     let setup = Setup {
         class: at(log, 2),
         server_count: at(log, 3),
         home: at(log, 4),
     };
-    let v = setup_fault(v, setup);
+    let v = setup_fault(v, prices, setup);
     let v = or_else(v, at(log, 5) != 0, 6, 0);
     let v = or_else(v, MOST < n, 7, 0);
     let v = or_else(v, misplaced(log, n), 8, 0);
@@ -147,10 +150,10 @@ fn requests_fault(log: &[u8]) -> Verdict
 }
 
 // What the bytes of a log are answered.
-pub fn verdict(log: &[u8]) -> Verdict
-    ensures { λ r. ⌜ r ≡ verdict-of (now (log .entry)) ⌝ }
+pub fn verdict(v: Verdict, prices: &[u8], log: &[u8]) -> Verdict
+    ensures { λ r. ⌜ r ≡ verdict-of (tariff v (table-in (now (prices .entry)))) (now (log .entry)) ⌝ }
 {
-    let v = form_fault(log);
+    let v = form_fault(v, prices, log);
     if let Verdict::Refused(r) = v {
         return Verdict::Refused(r);
     }
@@ -193,8 +196,14 @@ fn lists_fault(count: u8, seconds: &[u32], servers: &[u16]) -> Verdict
 }
 
 // What the writer answers to a header and two lists.
-pub fn contents_fault(header: Header, seconds: &[u32], servers: &[u16]) -> Verdict
-    ensures { λ r. ⌜ r ≡ first (contents-conditions (contents header (now (seconds .entry)) (now (servers .entry)))) ⌝ }
+pub fn contents_fault(
+    v: Verdict,
+    prices: &[u8],
+    header: Header,
+    seconds: &[u32],
+    servers: &[u16],
+) -> Verdict
+    ensures { λ r. ⌜ r ≡ otherwise v (first (contents-conditions (table-in (now (prices .entry))) (contents header (now (seconds .entry)) (now (servers .entry))))) ⌝ }
 {
     let count = header.server_count;
     let setup = Setup {
@@ -202,7 +211,7 @@ pub fn contents_fault(header: Header, seconds: &[u32], servers: &[u16]) -> Verdi
         server_count: count,
         home: header.home,
     };
-    let v = setup_fault(Verdict::Passed, setup);
+    let v = setup_fault(v, prices, setup);
     let v = or_else(v, lengths_outside(seconds.len(), servers.len()), 7, 0);
     if let Verdict::Refused(r) = v {
         return Verdict::Refused(r);

@@ -10,7 +10,11 @@ pub use checksum::sum;
 pub use conditions::setup_fault;
 pub use conditions::verdict;
 pub use reader::read;
+pub use reader::read_by;
+pub use reader::read_with;
 pub use writer::write;
+pub use writer::write_by;
+pub use writer::write_with;
 
 // What a file is served under, and a start is given: price class, number of servers (01: stations), home server.
 pub struct Setup {

@@ -7,6 +7,8 @@ ghost use Rattle.base.specs.Bytes.{le16, le32};
 ghost use Rattle.base.specs.Lent.{lent};
 ghost use Rattle.base.specs.declared.Verdict.the-variants.{Passed};
 ghost use Rattle.base.specs.Lists.{build};
+ghost use Rattle.prices.specs.PriceFile.{table-in};
+ghost use Rattle.prices.specs.Tariff.{tariff, built-in, price-file};
 ghost use Rattle.log.specs.Fields.{id-of, header-of};
 ghost use Rattle.log.specs.Answers.{no-header, read-verdict, decoded, seconds-left, servers-left};
 use crate::Decoded;
@@ -22,6 +24,8 @@ use base::bytes::clear32;
 use base::refusals::or_else;
 use base::widths::size_from_u16;
 use base::widths::u64_from_u16;
+use prices::built_in;
+use prices::file_fault;
 
 // The file id.
 fn id(log: &[u8]) -> [u8; 16]
@@ -101,13 +105,13 @@ fn give_requests(log: &[u8], n: u16, seconds: &mut [u32], servers: &mut [u16])
     clear16(servers, end);
 }
 
-// The log's conditions, then 31 for seconds and for servers.
-fn read_fault(log: &[u8], seconds: usize, servers: usize) -> Verdict
-    ensures { λ r. ⌜ r ≡ read-verdict (now (log .entry)) seconds servers ⌝ }
+// What the price file was answered, the log's conditions, then 31 for seconds and for servers.
+fn read_fault(v: Verdict, prices: &[u8], log: &[u8], seconds: usize, servers: usize) -> Verdict
+    ensures { λ r. ⌜ r ≡ read-verdict (tariff v (table-in (now (prices .entry)))) (now (log .entry)) seconds servers ⌝ }
 {
     let n = at16(log, 6);
     let v = or_else(
-        verdict(log),
+        verdict(v, prices, log),
         seconds < size_from_u16(n),
         31,
         u64_from_u16(n),
@@ -115,13 +119,19 @@ fn read_fault(log: &[u8], seconds: usize, servers: usize) -> Verdict
     or_else(v, servers < size_from_u16(n), 31, u64_from_u16(n))
 }
 
-// Read a log: its header and number of requests, their seconds and servers into what is lent.
-pub fn read(log: &[u8], seconds: &mut [u32], servers: &mut [u16]) -> Decoded
-    ensures { λ r. ⌜ r ≡ decoded (read-verdict (now (log .entry)) (length (now (seconds .entry))) (length (now (servers .entry)))) (now (log .entry)) ⌝ }
-    ensures { λ _. ⌜ now (seconds .exit) ≡ seconds-left (now (log .entry)) (now (seconds .entry)) (now (servers .entry)) ⌝ }
-    ensures { λ _. ⌜ now (servers .exit) ≡ servers-left (now (log .entry)) (now (seconds .entry)) (now (servers .entry)) ⌝ }
+// Read a log by a price file and what that was answered: its header and number of requests, their seconds and servers into what is lent.
+pub fn read_by(
+    v: Verdict,
+    prices: &[u8],
+    log: &[u8],
+    seconds: &mut [u32],
+    servers: &mut [u16],
+) -> Decoded
+    ensures { λ r. ⌜ r ≡ decoded (read-verdict (tariff v (table-in (now (prices .entry)))) (now (log .entry)) (length (now (seconds .entry))) (length (now (servers .entry)))) (now (log .entry)) ⌝ }
+    ensures { λ _. ⌜ now (seconds .exit) ≡ seconds-left (tariff v (table-in (now (prices .entry)))) (now (log .entry)) (now (seconds .entry)) (now (servers .entry)) ⌝ }
+    ensures { λ _. ⌜ now (servers .exit) ≡ servers-left (tariff v (table-in (now (prices .entry)))) (now (log .entry)) (now (seconds .entry)) (now (servers .entry)) ⌝ }
 {
-    let v = read_fault(log, seconds.len(), servers.len());
+    let v = read_fault(v, prices, log, seconds.len(), servers.len());
     if let Verdict::Refused(r) = v {
         return Decoded {
             header: blank(),
@@ -134,4 +144,23 @@ pub fn read(log: &[u8], seconds: &mut [u32], servers: &mut [u16]) -> Decoded
         header: header(log),
         outcome: ReadOutcome::Requests(n),
     }
+}
+
+// Read a log by the built-in table.
+pub fn read(log: &[u8], seconds: &mut [u32], servers: &mut [u16]) -> Decoded
+    ensures { λ r. ⌜ r ≡ decoded (read-verdict built-in (now (log .entry)) (length (now (seconds .entry))) (length (now (servers .entry)))) (now (log .entry)) ⌝ }
+    ensures { λ _. ⌜ now (seconds .exit) ≡ seconds-left built-in (now (log .entry)) (now (seconds .entry)) (now (servers .entry)) ⌝ }
+    ensures { λ _. ⌜ now (servers .exit) ≡ servers-left built-in (now (log .entry)) (now (seconds .entry)) (now (servers .entry)) ⌝ }
+{
+    let prices = built_in();
+    read_by(Verdict::Passed, &prices, log, seconds, servers)
+}
+
+// Read a log by a price file.
+pub fn read_with(prices: &[u8], log: &[u8], seconds: &mut [u32], servers: &mut [u16]) -> Decoded
+    ensures { λ r. ⌜ r ≡ decoded (read-verdict (price-file (now (prices .entry))) (now (log .entry)) (length (now (seconds .entry))) (length (now (servers .entry)))) (now (log .entry)) ⌝ }
+    ensures { λ _. ⌜ now (seconds .exit) ≡ seconds-left (price-file (now (prices .entry))) (now (log .entry)) (now (seconds .entry)) (now (servers .entry)) ⌝ }
+    ensures { λ _. ⌜ now (servers .exit) ≡ servers-left (price-file (now (prices .entry))) (now (log .entry)) (now (seconds .entry)) (now (servers .entry)) ⌝ }
+{
+    read_by(file_fault(prices), prices, log, seconds, servers)
 }

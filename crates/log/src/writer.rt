@@ -5,6 +5,8 @@ ghost use Prim.Native.Nat.{_+_, _*_, _≤_, _<_};
 ghost use lib.ListN.{length, take, drop};
 ghost use Rattle.base.specs.Bytes.{bytes};
 ghost use Rattle.base.specs.Lists.{splice};
+ghost use Rattle.prices.specs.PriceFile.{table-in};
+ghost use Rattle.prices.specs.Tariff.{tariff, built-in, price-file};
 ghost use Rattle.log.specs.Sizes.{most-requests};
 ghost use Rattle.log.specs.Sum.{sum-of};
 ghost use Rattle.log.specs.Contents.{contents, head, request-bytes, requests-bytes};
@@ -20,6 +22,8 @@ use base::bytes::le_bytes16;
 use base::bytes::le_bytes32;
 use base::refusals::or_else;
 use base::widths::u64_from_size;
+use prices::built_in;
+use prices::file_fault;
 
 // At most 2,048 requests, in narrower types.
 fn u16_from_size(n: usize) -> u16
@@ -115,11 +119,18 @@ fn put_sum(total: usize, log: &mut [u8])
     copy(log, 20, &le_bytes32(s));
 }
 
-// The conditions on what is to be written, then 31 for the log.
-fn write_fault(header: Header, seconds: &[u32], servers: &[u16], log: usize) -> Verdict
-    ensures { λ r. ⌜ r ≡ write-verdict (contents header (now (seconds .entry)) (now (servers .entry))) log ⌝ }
+// What the price file was answered, the conditions on what is to be written, then 31 for the log.
+fn write_fault(
+    v: Verdict,
+    prices: &[u8],
+    header: Header,
+    seconds: &[u32],
+    servers: &[u16],
+    log: usize,
+) -> Verdict
+    ensures { λ r. ⌜ r ≡ write-verdict (tariff v (table-in (now (prices .entry)))) (contents header (now (seconds .entry)) (now (servers .entry))) log ⌝ }
 {
-    let v = contents_fault(header, seconds, servers);
+    let v = contents_fault(v, prices, header, seconds, servers);
     if let Verdict::Refused(r) = v {
         return Verdict::Refused(r);
     }
@@ -127,12 +138,19 @@ fn write_fault(header: Header, seconds: &[u32], servers: &[u16], log: usize) -> 
     or_else(Verdict::Passed, log < total, 31, u64_from_size(total))
 }
 
-// Write a log: its bytes into what is lent, and zeros after them.
-pub fn write(header: Header, seconds: &[u32], servers: &[u16], log: &mut [u8]) -> Written
-    ensures { λ r. ⌜ r ≡ written (write-verdict (contents header (now (seconds .entry)) (now (servers .entry))) (length (now (log .entry)))) (contents header (now (seconds .entry)) (now (servers .entry))) ⌝ }
-    ensures { λ _. ⌜ now (log .exit) ≡ log-left (contents header (now (seconds .entry)) (now (servers .entry))) (now (log .entry)) ⌝ }
+// Write a log by a price file and what that was answered: its bytes into what is lent, and zeros after them.
+pub fn write_by(
+    v: Verdict,
+    prices: &[u8],
+    header: Header,
+    seconds: &[u32],
+    servers: &[u16],
+    log: &mut [u8],
+) -> Written
+    ensures { λ r. ⌜ r ≡ written (write-verdict (tariff v (table-in (now (prices .entry)))) (contents header (now (seconds .entry)) (now (servers .entry))) (length (now (log .entry)))) (contents header (now (seconds .entry)) (now (servers .entry))) ⌝ }
+    ensures { λ _. ⌜ now (log .exit) ≡ log-left (tariff v (table-in (now (prices .entry)))) (contents header (now (seconds .entry)) (now (servers .entry))) (now (log .entry)) ⌝ }
 {
-    let v = write_fault(header, seconds, servers, log.len());
+    let v = write_fault(v, prices, header, seconds, servers, log.len());
     if let Verdict::Refused(r) = v {
         return Written::Refused(r);
     }
@@ -143,4 +161,27 @@ pub fn write(header: Header, seconds: &[u32], servers: &[u16], log: &mut [u8]) -
     clear8(log, total);
     put_sum(total, log);
     Written::Length(u64_from_size(total))
+}
+
+// Write a log by the built-in table.
+pub fn write(header: Header, seconds: &[u32], servers: &[u16], log: &mut [u8]) -> Written
+    ensures { λ r. ⌜ r ≡ written (write-verdict built-in (contents header (now (seconds .entry)) (now (servers .entry))) (length (now (log .entry)))) (contents header (now (seconds .entry)) (now (servers .entry))) ⌝ }
+    ensures { λ _. ⌜ now (log .exit) ≡ log-left built-in (contents header (now (seconds .entry)) (now (servers .entry))) (now (log .entry)) ⌝ }
+{
+    let prices = built_in();
+    write_by(Verdict::Passed, &prices, header, seconds, servers, log)
+}
+
+// Write a log by a price file.
+pub fn write_with(
+    prices: &[u8],
+    header: Header,
+    seconds: &[u32],
+    servers: &[u16],
+    log: &mut [u8],
+) -> Written
+    ensures { λ r. ⌜ r ≡ written (write-verdict (price-file (now (prices .entry))) (contents header (now (seconds .entry)) (now (servers .entry))) (length (now (log .entry)))) (contents header (now (seconds .entry)) (now (servers .entry))) ⌝ }
+    ensures { λ _. ⌜ now (log .exit) ≡ log-left (price-file (now (prices .entry))) (contents header (now (seconds .entry)) (now (servers .entry))) (now (log .entry)) ⌝ }
+{
+    write_by(file_fault(prices), prices, header, seconds, servers, log)
 }

@@ -3,6 +3,7 @@ use mathlib.Core.List.{List}
 use Prim.Native.Nat.{ℕ}
 use Rattle.prices.specs.declared.Prices.{Prices}
 use Rattle.prices.specs.Prices.{prices-of}
+use Rattle.prices.specs.Tariff.{Tariff}
 use Rattle.log.specs.Fields.{class-of, home-of, seconds-of, servers-of}
 use Rattle.model.specs.Requests.{Requests, requests}
 
@@ -11,5 +12,5 @@ unfoldable pub requests-in : List ℕ → Requests
 requests-in log = requests (home-of log) (seconds-of log) (servers-of log)
 
 -- the prices of a log's class
-unfoldable pub prices-in : List ℕ → Prices
-prices-in log = prices-of (class-of log)
+unfoldable pub prices-in : Tariff → List ℕ → Prices
+prices-in t log = prices-of (t .table) (class-of log)

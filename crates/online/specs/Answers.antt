@@ -4,6 +4,7 @@ use Rattle.base.specs.Choice.{pick}
 use Rattle.base.specs.Refusals.{first}
 use Rattle.base.specs.declared.Verdict.{Verdict}
 use Rattle.base.specs.declared.Verdict.the-variants.{Passed, Refused}
+use Rattle.prices.specs.Prices.{classes}
 use Rattle.log.specs.declared.Setup.{Setup}
 use Rattle.log.specs.Conditions.{setup-conditions}
 use Rattle.online.specs.declared.Cache.{Cache}
@@ -21,7 +22,7 @@ use Rattle.online.specs.Conditions.{scan-conditions, running-conditions,
 
 -- what refuses a start: the first condition that holds
 unfoldable pub start-verdict : Setup → Verdict
-start-verdict s = first (setup-conditions s)
+start-verdict s = first (setup-conditions classes s)
 
 -- what refuses a scan
 unfoldable pub scan-verdict : Cache → ℕ → ℕ → Verdict

@@ -4,13 +4,13 @@ use mathlib.Core.Path.{_≡_, refl}
 use native.Mathlib.Nat.{mul-le-mul-left}
 use native.Mathlib.Omega.{arith}
 use Prim.Native.Nat.{ℕ, _+_, _-_, _*_, _≤_, _<_, _^_}
-use Rattle.prices.specs.PriceLaws.{prices-most}
 use Rattle.prices.specs.WindowLaws.{window-low}
 use Rattle.online.specs.declared.Cache.{Cache}
 use Rattle.online.specs.Servers.{across}
 use Rattle.online.specs.ServerLaws.{across-le, across-const}
 use Rattle.online.specs.Rules.{class-prices, window-of, copy-at, use-at, running, remaining, closing}
 use Rattle.online.specs.Intact.{Intact}
+use Rattle.online.specs.Widths.{prices-most}
 
 -- where there is no copy nothing is left
 pub remaining-none : (c : Cache) (y : ℕ) → copy-at c y ≡ false → remaining c y ≡ 0
@@ -55,5 +55,4 @@ module _ (c : Cache) (s : Intact c) where
 
   -- that fits 64 bits
   pub closing-fits : closing c < 2 ^ 64
-  unfolding class-prices
-  closing-fits = let p = prices-most (c .«class») in omega (arith, closing-most, p .0, p .1)
+  closing-fits = let p = prices-most c in omega (arith, closing-most, p .0, p .1)

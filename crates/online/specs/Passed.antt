@@ -5,10 +5,12 @@ use mathlib.Core.Path.{_≡_}
 use native.Mathlib.Omega.{arith}
 use Prim.Native.Nat.{ℕ, _≤_, _<_}
 use lib.Dec.{ltb, eqb}
+use lib.ListN.{length}
 use borrow.Author.Tests.{leb-false, ltb-false, eqb-false}
 use Rattle.base.specs.ChoiceLaws.{either-false}
 use Rattle.base.specs.RefusalLaws.{first-passed}
 use Rattle.base.specs.declared.Verdict.the-variants.{Passed}
+use Rattle.prices.specs.Prices.{classes}
 use Rattle.log.specs.declared.Setup.{Setup}
 use Rattle.log.specs.Ranges.{Allowed}
 use Rattle.log.specs.AcceptedLaws.{setup-allowed}
@@ -17,10 +19,14 @@ use Rattle.online.specs.Conditions.{scan-conditions, close-conditions}
 use Rattle.online.specs.Answers.{start-verdict, scan-verdict, close-verdict}
 use Rattle.online.specs.Intact.{Intact, unbroken-intact}
 
--- a start that is not refused is given what is allowed
-pub start-passed : (s : Setup) → (start-verdict s ≡ Passed) ↔ Allowed s
+-- a class of the table, and the rest allowed
+abbrev pub Startable : Setup → Type 0
+Startable s = (s .«class» < length classes) × Allowed s
+
+-- a start that is not refused is given these
+pub start-passed : (s : Setup) → (start-verdict s ≡ Passed) ↔ Startable s
 unfolding start-verdict
-start-passed = setup-allowed
+start-passed = setup-allowed classes
 
 -- state, second and server of a scan that is not refused
 pub record Fit (c : Cache) (second server : ℕ) : Type 0 where

@@ -7,7 +7,7 @@ use Rattle.base.specs.Choice.{pick, both, either}
 use Rattle.base.specs.Sets.{has}
 use Rattle.base.specs.Lists.{build}
 use Rattle.prices.specs.declared.Prices.{Prices}
-use Rattle.prices.specs.Prices.{prices-of, window}
+use Rattle.prices.specs.Prices.{classes, prices-of, window}
 use Rattle.log.specs.declared.Setup.{Setup}
 use Rattle.online.specs.declared.Cache.{Cache}
 use Rattle.online.specs.Servers.{across, set-of}
@@ -16,7 +16,7 @@ use Rattle.online.specs.Servers.{across, set-of}
 
 -- the prices of its class
 unfoldable pub class-prices : Cache → Prices
-class-prices c = prices-of (c .«class»)
+class-prices c = prices-of classes (c .«class»)
 
 -- and their window
 unfoldable pub window-of : Cache → ℕ

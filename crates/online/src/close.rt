@@ -12,6 +12,7 @@ use crate::Closed;
 use crate::conditions::close_fault;
 use crate::running::running_cost;
 use crate::state::Outline;
+use crate::state::class_prices;
 use crate::state::expiry;
 use crate::state::member;
 use crate::state::outline_of;
@@ -20,7 +21,6 @@ use base::sets::cut;
 use base::sets::has;
 use base::widths::size_from_u16;
 use base::widths::u64_from_u32;
-use prices::of_class;
 
 // The seconds from the last second up to an end; a copy at its end has none left.
 fn rest(end: u64, second: u32) -> u64
@@ -64,7 +64,7 @@ fn closing_cost(cache: Cache) -> u64
     requires { ⌜ Intact cache ⌝ }
     ensures { λ r. ⌜ r ≡ closing cache ⌝ }
 {
-    let prices = of_class(cache.class);
+    let prices = class_prices(cache);
     let left = all_remaining(cache, outline_of(cache));
     running_cost(cache) + u64_from_u32(prices.hold) * left
 }

@@ -6,9 +6,9 @@ ghost use Rattle.online.specs.Answers.{running-answer};
 use crate::Cache;
 use crate::RunningCost;
 use crate::conditions::state_fault;
+use crate::state::class_prices;
 use base::Verdict;
 use base::widths::u64_from_u32;
-use prices::of_class;
 
 // A price, paid a number of times.
 fn times(price: u32, n: u32) -> u64
@@ -21,7 +21,7 @@ fn times(price: u32, n: u32) -> u64
 pub fn running_cost(cache: Cache) -> u64
     ensures { λ r. ⌜ r ≡ running cache ⌝ }
 {
-    let prices = of_class(cache.class);
+    let prices = class_prices(cache);
     times(prices.hold, cache.held) + times(prices.transfer, cache.transfers)
 }
 

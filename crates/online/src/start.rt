@@ -10,6 +10,7 @@ use base::sets::put;
 use base::widths::u16_from_u8;
 use log::Setup;
 use log::setup_fault;
+use prices::built_in;
 
 // The copy at home, home as the last server, and nothing counted yet.
 fn fresh(setup: Setup) -> Cache
@@ -53,7 +54,8 @@ impl Cache {
     pub fn start(setup: Setup) -> Started
         ensures { λ r. ⌜ r ≡ started setup ⌝ }
     {
-        let v = setup_fault(Verdict::Passed, setup);
+        let prices = built_in();
+        let v = setup_fault(Verdict::Passed, &prices, setup);
         if let Verdict::Refused(r) = v {
             let blank = zeros();
             return Started {

@@ -4,13 +4,15 @@ ghost use mathlib.Core.Logic.{_≢_};
 ghost use mathlib.Core.Path.{_≡_};
 ghost use Prim.Native.Nat.{_+_, _<_};
 ghost use Rattle.base.specs.Sets.{has};
-ghost use Rattle.online.specs.Rules.{window-of, copy-at, use-at};
+ghost use Rattle.online.specs.Rules.{class-prices, window-of, copy-at, use-at};
 ghost use Rattle.online.specs.Serving.{Outlines};
 use crate::Cache;
 use base::sets::has;
 use base::sets::lowest;
 use base::widths::u16_from_u8;
 use base::widths::u64_from_u32;
+use prices::Prices;
+use prices::built_in;
 use prices::of_class;
 use prices::window;
 
@@ -23,11 +25,19 @@ pub struct Outline {
     pub window: u32,
 }
 
-// The window of the state's class.
+// The prices of the state's class.
+pub(crate) fn class_prices(cache: Cache) -> Prices
+    ensures { λ r. ⌜ r ≡ class-prices cache ⌝ }
+{
+    let table = built_in();
+    of_class(&table, cache.class)
+}
+
+// Their window.
 fn window_of(cache: Cache) -> u32
     ensures { λ r. ⌜ r ≡ window-of cache ⌝ }
 {
-    window(of_class(cache.class))
+    window(class_prices(cache))
 }
 
 // The outline of a state.

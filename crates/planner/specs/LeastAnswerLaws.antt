@@ -9,11 +9,12 @@ use borrow.Author.Tests.{lt-ltb, le-ltb}
 use Rattle.base.specs.Lists.{build, build-length, build-at, cleared}
 use Rattle.base.specs.Lent.{lent}
 use Rattle.base.specs.LentLaws.{lent-front}
-use Rattle.base.specs.Refusals.{first, short}
-use Rattle.base.specs.RefusalLaws.{first-append, first-met, first-failed}
+use Rattle.base.specs.Refusals.{first, short, otherwise}
+use Rattle.base.specs.RefusalLaws.{first-append, first-met, first-failed, otherwise-assoc}
 use Rattle.base.specs.declared.Refusal.{Refusal}
 use Rattle.base.specs.declared.Verdict.{Verdict}
 use Rattle.base.specs.declared.Verdict.the-variants.{Passed, Refused}
+use Rattle.prices.specs.Tariff.{Tariff}
 use Rattle.log.specs.Fields.{request-count}
 use Rattle.log.specs.Conditions.{log-conditions, verdict-of, Accepted}
 use Rattle.prices.specs.declared.Prices.{Prices}
@@ -50,17 +51,25 @@ pub costs-lent : (p : Prices) (q : Requests) (n : ℕ) (o : List ℕ) → suc n 
 costs-lent p q n o h = lent-front (lists p q n .costs) o (suc n) (lists-length p q n .0) h
 
 -- the answer, and what the lent list holds at the end
-abbrev pub Least-so : List ℕ → List ℕ → LeastCosts → List ℕ → Type 0
-Least-so log costs r costs′ =
-    (r ≡ least-answer (least-verdict log (length costs)) log)
-    × (costs′ ≡ costs-left log costs)
+abbrev pub Least-so : Tariff → List ℕ → List ℕ → LeastCosts → List ℕ → Type 0
+Least-so t log costs r costs′ =
+    (r ≡ least-answer (least-verdict t log (length costs)) log)
+    × (costs′ ≡ costs-left t log costs)
+
+-- the verdict by the log's and by the length of the lent list
+least-parts : (t : Tariff) (log costs : List ℕ)
+    → least-verdict t log (length costs) ≡ otherwise (verdict-of t log) (first (short (suc (request-count log)) (length costs) ∷ []))
+unfolding least-verdict verdict-of
+least-parts t log costs =
+    ap (otherwise (t .judged)) (first-append (log-conditions (t .table) log) (short (suc (request-count log)) (length costs) ∷ []))
+    ∙ otherwise-assoc (t .judged) (first (log-conditions (t .table) log)) _
 
 -- a refused log
-pub least-refused : (log costs : List ℕ) (e : Refusal) (r : LeastCosts) → verdict-of log ≡ Refused e → r ≡ costs-answer (Refused e) 0 → Least-so log costs r costs
-unfolding least-answer least-verdict verdict-of lent costs-answer
-least-refused log costs e r v a =
-    let w : first (log-conditions log ++ (short (suc (request-count log)) (length costs) ∷ [])) ≡ Refused e =
-    first-append (log-conditions log) (short (suc (request-count log)) (length costs) ∷ []) ∙ rw v in
+pub least-refused : (t : Tariff) (log costs : List ℕ) (e : Refusal) (r : LeastCosts) → verdict-of t log ≡ Refused e → r ≡ costs-answer (Refused e) 0
+    → Least-so t log costs r costs
+unfolding least-answer lent costs-answer
+least-refused t log costs e r v a =
+    let w : least-verdict t log (length costs) ≡ Refused e = least-parts t log costs ∙ rw v in
     (rw w a, rw w)
 
 -- an answer by a verdict
@@ -70,14 +79,14 @@ answer-least Passed log = refl
 answer-least (Refused e) log = refl
 
 -- an accepted one, by its requests as they were read
-pub least-accepted : (log costs : List ℕ) → Accepted log → (s : Summary) → s ≡ summary-of log → (q : Requests) → q ≡ requests-in log → (r : LeastCosts) (costs′ : List ℕ)
+pub least-accepted : (t : Tariff) (log costs : List ℕ) → Accepted t log → (s : Summary) → s ≡ summary-of t log → (q : Requests) → q ≡ requests-in log
+    → (r : LeastCosts) (costs′ : List ℕ)
     → r ≡ costs-answer (first (short (suc (s .requests)) (length costs) ∷ [])) (s .requests)
     → costs′ ≡ lent (first (short (suc (s .requests)) (length costs) ∷ [])) (lists (s .prices) q (s .requests) .costs) costs
-    → Least-so log costs r costs′
-unfolding least-verdict Accepted verdict-of least-costs summary-of
-least-accepted log costs ok s e q f r costs′ a b =
-    let v : first (short (suc (request-count log)) (length costs) ∷ []) ≡ least-verdict log (length costs) =
-    sym (first-append (log-conditions log) (short (suc (request-count log)) (length costs) ∷ []) ∙ rw ok) in (
-      a ∙ rw (e, v) (answer-least (least-verdict log (length costs)) log),
-      b ∙ rw (e, f, v) (ap (λ (x : List ℕ). lent (least-verdict log (length costs)) x costs) (lists-least (prices-in log) (requests-in log) (request-count log))),
+    → Least-so t log costs r costs′
+unfolding Accepted least-costs summary-of
+least-accepted t log costs ok s e q f r costs′ a b =
+    let v : first (short (suc (request-count log)) (length costs) ∷ []) ≡ least-verdict t log (length costs) = sym (least-parts t log costs ∙ rw ok) in (
+      a ∙ rw (e, v) (answer-least (least-verdict t log (length costs)) log),
+      b ∙ rw (e, f, v) (ap (λ (x : List ℕ). lent (least-verdict t log (length costs)) x costs) (lists-least (prices-in t log) (requests-in log) (request-count log))),
     )

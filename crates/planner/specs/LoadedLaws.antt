@@ -11,8 +11,9 @@ use Rattle.base.specs.Lent.{lent}
 use Rattle.base.specs.Lists.{build, build-at}
 use Rattle.base.specs.declared.Verdict.{Verdict}
 use Rattle.base.specs.declared.Verdict.the-variants.{Passed, Refused}
-use Rattle.prices.specs.PriceLaws.{class-in-range}
-use Rattle.log.specs.Fields.{class-of, request-count, servers-of}
+use Rattle.prices.specs.Tariff.{Tariff}
+use Rattle.prices.specs.PriceLaws.{Priced}
+use Rattle.log.specs.Fields.{request-count, servers-of}
 use Rattle.log.specs.Conditions.{verdict-of, Accepted}
 use Rattle.log.specs.Ranges.{Sound}
 use Rattle.log.specs.AcceptedLaws.{accepted-sound, servers-length}
@@ -20,7 +21,7 @@ use Rattle.base.specs.declared.Refusal.{Refusal}
 use Rattle.model.specs.Requests.{Requests, requests, latest, previous}
 use Rattle.model.specs.TableLists.{at}
 use Rattle.model.specs.LogRequests.{requests-in, prices-in}
-use Rattle.model.specs.LogRequestLaws.{log-rising}
+use Rattle.model.specs.LogRequestLaws.{log-rising, log-priced}
 use Rattle.planner.specs.Asked.{asks}
 use Rattle.planner.specs.Terms.{index}
 use Rattle.planner.specs.Fits.{Fits, Ready}
@@ -69,9 +70,9 @@ pub with-home : (log : List ℕ) → asks (seconds-with-home log) (servers-with-
 unfolding requests-in requests seconds-with-home servers-with-home
 with-home log = refl
 
-module _ (log : List ℕ) (ok : Accepted log) where
+module _ (t : Tariff) (log : List ℕ) (ok : Accepted t log) where
   sound : Sound log
-  sound = accepted-sound log ok
+  sound = accepted-sound t log ok
 
   -- every server is one of 64
   pub servers-small : (k : ℕ) → at (servers-with-home log) k < 64
@@ -84,7 +85,7 @@ module _ (log : List ℕ) (ok : Accepted log) where
       go (inr h) = omega (arith, sound .in-order k h .server-below, sound .setup .servers-most)
 
   -- so is every one in a list that holds them, with zeros after them
-  pub lent-small : (o x : List ℕ) → x ≡ lent (verdict-of log) (servers-with-home log) o → (k : ℕ) → at x k < 64
+  pub lent-small : (o x : List ℕ) → x ≡ lent (verdict-of t log) (servers-with-home log) o → (k : ℕ) → at x k < 64
   unfolding Accepted
   lent-small o x f k =
       let g : x ≡ lent Passed (servers-with-home log) o = f ∙ ap (λ (w : Verdict). lent w (servers-with-home log) o) ok in
@@ -92,8 +93,8 @@ module _ (log : List ℕ) (ok : Accepted log) where
       omega (arith, servers-small k)
 
   -- and the links made from such a list are those of its requests
-  pub links-loaded : (o p x y : List ℕ) (n : ℕ) → x ≡ lent (verdict-of log) (servers-with-home log) o → n ≡ request-count log
-      → y ≡ lent Passed (links x n) p → y ≡ lent (verdict-of log) (links (servers-with-home log) (request-count log)) p
+  pub links-loaded : (o p x y : List ℕ) (n : ℕ) → x ≡ lent (verdict-of t log) (servers-with-home log) o → n ≡ request-count log
+      → y ≡ lent Passed (links x n) p → y ≡ lent (verdict-of t log) (links (servers-with-home log) (request-count log)) p
   unfolding Accepted
   links-loaded o p x y n f e g =
       let w : x ≡ lent Passed (servers-with-home log) o = f ∙ ap (λ (w : Verdict). lent w (servers-with-home log) o) ok in
@@ -109,16 +110,15 @@ module _ (log : List ℕ) (ok : Accepted log) where
   seconds-most (suc i) h = sound .in-order i h .second-most
 
   -- all costs fit
-  pub log-fits : Fits (prices-in log) (requests-in log) (request-count log)
-  unfolding prices-in
-  log-fits =
-      let p = class-in-range (class-of log) (omega (arith, sound .setup .class-most)) in
+  pub log-fits : Priced t → Fits (prices-in t log) (requests-in log) (request-count log)
+  log-fits priced =
+      let p = log-priced t priced log ok in
       record {
         hold-most = p .hold-most;
         transfer-most = p .transfer-most;
         requests-most = sound .requests-most;
         times-most = seconds-most;
-        rising = log-rising log ok;
+        rising = log-rising t log ok;
       }
 
   -- the links are to the previous requests
@@ -133,11 +133,11 @@ module _ (log : List ℕ) (ok : Accepted log) where
         ap₂ (λ (t s : ℕ → ℕ). record { time = t; server = s }) (at-lent (seconds-with-home log) o₁) (at-lent (servers-with-home log) o₂) ∙ with-home log
 
     -- and they are ready
-    pub lent-ready : Ready (prices-in log) (lent Passed (seconds-with-home log) o₁) (lent Passed (servers-with-home log) o₂)
+    pub lent-ready : Priced t → Ready (prices-in t log) (lent Passed (seconds-with-home log) o₁) (lent Passed (servers-with-home log) o₂)
         (lent Passed (links (servers-with-home log) (request-count log)) o₃) (request-count log)
-    lent-ready =
+    lent-ready p =
         record {
-          fits = rw lent-requests log-fits;
+          fits = rw lent-requests (log-fits p);
           linked = λ i h.
               ap (λ (f : ℕ → ℕ). f i) (at-lent (links (servers-with-home log) (request-count log)) o₃)
               ∙ links-right i h

@@ -4,6 +4,7 @@ use Prim.Native.Nat.{ℕ, suc}
 use Rattle.base.specs.Lists.{build}
 use Rattle.base.specs.declared.Verdict.{Verdict}
 use Rattle.base.specs.declared.Verdict.the-variants.{Passed, Refused}
+use Rattle.prices.specs.Tariff.{Tariff}
 use Rattle.log.specs.Fields.{home-of, server-count, request-count, seconds-of, servers-of}
 use Rattle.model.specs.Requests.{latest}
 use Rattle.model.specs.TableLists.{at}
@@ -25,10 +26,10 @@ unfoldable pub links : List ℕ → ℕ → List ℕ
 links servers n = build (suc n) (λ i. index (latest (at servers) (at servers i) i))
 
 -- what else a log says
-unfoldable pub summary-of : List ℕ → Summary
-summary-of log = record { requests = request-count log; «server_count» = server-count log; prices = prices-in log }
+unfoldable pub summary-of : Tariff → List ℕ → Summary
+summary-of t log = record { requests = request-count log; «server_count» = server-count log; prices = prices-in t log }
 
 -- that, by its verdict
-unfoldable pub loaded : Verdict → List ℕ → Loaded
-loaded Passed log = loaded′.Log (summary-of log)
-loaded (Refused r) log = loaded′.Refused r
+unfoldable pub loaded : Verdict → Tariff → List ℕ → Loaded
+loaded Passed t log = loaded′.Log (summary-of t log)
+loaded (Refused r) t log = loaded′.Refused r

@@ -9,12 +9,13 @@ use lib.Seq.{getD-take, take-at}
 use Rattle.base.specs.Choice.{pick}
 use Rattle.base.specs.Lists.{build, build-length, build-at}
 use Rattle.base.specs.Lent.{lent}
-use Rattle.base.specs.Refusals.{first, short}
-use Rattle.base.specs.RefusalLaws.{first-append}
+use Rattle.base.specs.Refusals.{first, short, otherwise}
+use Rattle.base.specs.RefusalLaws.{first-append, otherwise-assoc}
 use Rattle.base.specs.declared.Refusal.{Refusal}
 use Rattle.base.specs.declared.Verdict.{Verdict}
 use Rattle.base.specs.declared.Verdict.the-variants.{Passed, Refused}
 use Rattle.log.specs.Sizes.{most-requests}
+use Rattle.prices.specs.Tariff.{Tariff}
 use Rattle.log.specs.Fields.{request-count}
 use Rattle.log.specs.Conditions.{log-conditions, verdict-of, Accepted}
 use Rattle.model.specs.Requests.{Requests, Within}
@@ -115,37 +116,45 @@ module _ (p : Prices) (n count : ℕ) (seconds servers letters : List ℕ)
       record { answers = y .answers ∙ rw e; marks-left = y .marks-left ∙ rw spelt; rows-left = y .rows-left }
 
 -- the answer for a log, and what the lent lists hold at the end
-abbrev pub Planned-so : List ℕ → List ℕ → List ℕ → Planned → List ℕ → List ℕ → Type 0
-Planned-so log marks rows r marks′ rows′ =
-    (r ≡ planned (plan-verdict log (length marks) (length rows)) log)
-    × (marks′ ≡ marks-left log marks rows)
-    × (rows′ ≡ rows-left log marks rows)
+abbrev pub Planned-so : Tariff → List ℕ → List ℕ → List ℕ → Planned → List ℕ → List ℕ → Type 0
+Planned-so t log marks rows r marks′ rows′ =
+    (r ≡ planned (plan-verdict t log (length marks) (length rows)) t log)
+    × (marks′ ≡ marks-left t log marks rows)
+    × (rows′ ≡ rows-left t log marks rows)
+
+-- the verdict by the log's and by the lengths of the lent lists
+plan-parts : (t : Tariff) (log : List ℕ) (marks rows : List ℕ)
+    → plan-verdict t log (length marks) (length rows) ≡ otherwise (verdict-of t log) (lengths-verdict (planned-rows t log) (request-count log) marks rows)
+unfolding plan-verdict verdict-of lengths-verdict rows-of-plan
+plan-parts t log marks rows =
+    ap (otherwise (t .judged)) (first-append (log-conditions (t .table) log) (short (request-count log) (length marks) ∷ short (length (rows-of-plan t log)) (length rows) ∷ []))
+    ∙ otherwise-assoc (t .judged) (first (log-conditions (t .table) log)) _
 
 -- a refused log
-pub log-refused : (log marks rows : List ℕ) (e : Refusal) (r : Planned) → verdict-of log ≡ Refused e → r ≡ answer-of (Refused e) 0 0
-    → Planned-so log marks rows r marks rows
-unfolding planned plan-verdict verdict-of lent answer-of
-log-refused log marks rows e r v a =
-    let w : first (log-conditions log ++ (short (request-count log) (length marks) ∷ short (length (rows-of-plan log)) (length rows) ∷ [])) ≡ Refused e =
-    first-append (log-conditions log) (short (request-count log) (length marks) ∷ short (length (rows-of-plan log)) (length rows) ∷ []) ∙ rw v in
+pub log-refused : (t : Tariff) (log marks rows : List ℕ) (e : Refusal) (r : Planned) → verdict-of t log ≡ Refused e → r ≡ answer-of (Refused e) 0 0
+    → Planned-so t log marks rows r marks rows
+unfolding planned lent answer-of
+log-refused t log marks rows e r v a =
+    let w : plan-verdict t log (length marks) (length rows) ≡ Refused e = plan-parts t log marks rows ∙ rw v in
     (rw w a, rw w, rw w)
 
 -- an answer by a verdict
-answer-planned : (v : Verdict) (log : List ℕ) → answer-of v (plan-cost (prices-in log) (requests-in log) (request-count log)) (length (planned-rows log)) ≡ planned v log
+answer-planned : (v : Verdict) (t : Tariff) (log : List ℕ)
+    → answer-of v (plan-cost (prices-in t log) (requests-in log) (request-count log)) (length (planned-rows t log)) ≡ planned v t log
 unfolding answer-of planned
-answer-planned Passed log = refl
-answer-planned (Refused e) log = refl
+answer-planned Passed t log = refl
+answer-planned (Refused e) t log = refl
 
 -- an accepted log, by its requests as they were read
-pub log-answered : (log : List ℕ) → Accepted log → (s : Summary) → s ≡ summary-of log → (q : Requests) → q ≡ requests-in log
+pub log-answered : (t : Tariff) (log : List ℕ) → Accepted t log → (s : Summary) → s ≡ summary-of t log → (q : Requests) → q ≡ requests-in log
     → (marks rows : List ℕ) (r : Planned) (marks′ rows′ : List ℕ)
-    → Plan-answered (s .prices) q (s .requests) (s .«server_count») marks rows r marks′ rows′ → Planned-so log marks rows r marks′ rows′
-unfolding plan-verdict lengths-verdict rows-of-plan planned-rows marks-of plan-letters Accepted verdict-of summary-of
-log-answered log ok s e q f marks rows r marks′ rows′ x =
-    let v : lengths-verdict (planned-rows log) (request-count log) marks rows ≡ plan-verdict log (length marks) (length rows) =
-    sym (first-append (log-conditions log) (short (request-count log) (length marks) ∷ short (length (rows-of-plan log)) (length rows) ∷ []) ∙ rw ok) in
+    → Plan-answered (s .prices) q (s .requests) (s .«server_count») marks rows r marks′ rows′ → Planned-so t log marks rows r marks′ rows′
+unfolding lengths-verdict rows-of-plan planned-rows marks-of plan-letters Accepted summary-of
+log-answered t log ok s e q f marks rows r marks′ rows′ x =
+    let v : lengths-verdict (planned-rows t log) (request-count log) marks rows ≡ plan-verdict t log (length marks) (length rows) =
+    sym (plan-parts t log marks rows ∙ rw ok) in
     let y = rw (e, f) at x in (
-      y .answers ∙ rw v (answer-planned (plan-verdict log (length marks) (length rows)) log),
+      y .answers ∙ rw v (answer-planned (plan-verdict t log (length marks) (length rows)) t log),
       y .marks-left ∙ rw v,
       y .rows-left ∙ rw v,
     )

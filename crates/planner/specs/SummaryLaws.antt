@@ -7,6 +7,8 @@ use Rattle.base.specs.Lent.{lent}
 use Rattle.base.specs.declared.Refusal.{Refusal}
 use Rattle.base.specs.declared.Verdict.{Verdict}
 use Rattle.base.specs.declared.Verdict.the-variants.{Passed, Refused}
+use Rattle.prices.specs.Tariff.{Tariff}
+use Rattle.prices.specs.PriceLaws.{Priced}
 use Rattle.log.specs.Fields.{server-count, request-count}
 use Rattle.log.specs.Conditions.{verdict-of, Accepted}
 use Rattle.model.specs.Requests.{Within}
@@ -21,34 +23,34 @@ use Rattle.planner.specs.Loading.{seconds-with-home, servers-with-home, 
 use Rattle.planner.specs.LoadedLaws.{lent-requests, lent-ready}
 
 -- a log that is loaded is accepted
-pub loaded-log : (v : Verdict) (log : List ℕ) (x : Loaded) (s : Summary) → x ≡ loaded v log → x ≡ loaded′.Log s → (v ≡ Passed) × (s ≡ summary-of log)
+pub loaded-log : (v : Verdict) (t : Tariff) (log : List ℕ) (x : Loaded) (s : Summary) → x ≡ loaded v t log → x ≡ loaded′.Log s → (v ≡ Passed) × (s ≡ summary-of t log)
 unfolding loaded
-loaded-log Passed log x s e f = (refl, cc)
-loaded-log (Refused r) log x s e f = absurd (let z : _≡_ {A = ℕ} 0 1 = cc in omega arith)
+loaded-log Passed t log x s e f = (refl, cc)
+loaded-log (Refused r) t log x s e f = absurd (let z : _≡_ {A = ℕ} 0 1 = cc in omega arith)
 
 -- one that is not is refused
-pub loaded-refused : (v : Verdict) (log : List ℕ) (x : Loaded) (r : Refusal) → x ≡ loaded v log → x ≡ loaded′.Refused r → v ≡ Refused r
+pub loaded-refused : (v : Verdict) (t : Tariff) (log : List ℕ) (x : Loaded) (r : Refusal) → x ≡ loaded v t log → x ≡ loaded′.Refused r → v ≡ Refused r
 unfolding loaded
-loaded-refused Passed log x r e f = absurd (let z : _≡_ {A = ℕ} 0 1 = cc in omega arith)
-loaded-refused (Refused r′) log x r e f = cc
+loaded-refused Passed t log x r e f = absurd (let z : _≡_ {A = ℕ} 0 1 = cc in omega arith)
+loaded-refused (Refused r′) t log x r e f = cc
 
-module _ (log : List ℕ) (ok : Accepted log) (o₁ o₂ x y : List ℕ)
-    (e : x ≡ lent (verdict-of log) (seconds-with-home log) o₁) (f : y ≡ lent (verdict-of log) (servers-with-home log) o₂) where
-  passed : (l o : List ℕ) → lent (verdict-of log) l o ≡ lent Passed l o
+module _ (t : Tariff) (log : List ℕ) (ok : Accepted t log) (o₁ o₂ x y : List ℕ)
+    (e : x ≡ lent (verdict-of t log) (seconds-with-home log) o₁) (f : y ≡ lent (verdict-of t log) (servers-with-home log) o₂) where
+  passed : (l o : List ℕ) → lent (verdict-of t log) l o ≡ lent Passed l o
   unfolding Accepted
   passed l o = ap (λ (v : Verdict). lent v l o) ok
 
   -- the loaded lists hold its requests
   pub setup-requests : asks x y ≡ requests-in log
-  setup-requests = ap₂ asks (e ∙ passed (seconds-with-home log) o₁) (f ∙ passed (servers-with-home log) o₂) ∙ lent-requests log ok o₁ o₂ o₂
+  setup-requests = ap₂ asks (e ∙ passed (seconds-with-home log) o₁) (f ∙ passed (servers-with-home log) o₂) ∙ lent-requests t log ok o₁ o₂ o₂
 
   -- at servers below its server count
   pub setup-within : Within (server-count log) (asks x y) (request-count log)
-  setup-within = rw setup-requests (log-within log ok)
+  setup-within = rw setup-requests (log-within t log ok)
 
   -- and are ready
-  pub summary-ready : (o₃ z : List ℕ) (s : Summary) → z ≡ lent (verdict-of log) (links (servers-with-home log) (request-count log)) o₃ → s ≡ summary-of log
+  pub summary-ready : Priced t → (o₃ z : List ℕ) (s : Summary) → z ≡ lent (verdict-of t log) (links (servers-with-home log) (request-count log)) o₃ → s ≡ summary-of t log
       → Ready (s .prices) x y z (s .requests)
   unfolding summary-of
-  summary-ready o₃ z s g h =
-      rw (h, e, f, g, passed (seconds-with-home log) o₁, passed (servers-with-home log) o₂, passed (links (servers-with-home log) (request-count log)) o₃) (lent-ready log ok o₁ o₂ o₃)
+  summary-ready p o₃ z s g h =
+      rw (h, e, f, g, passed (seconds-with-home log) o₁, passed (servers-with-home log) o₂, passed (links (servers-with-home log) (request-count log)) o₃) (lent-ready t log ok o₁ o₂ o₃ p)

@@ -5,6 +5,9 @@ ghost use Prim.Native.Nat.{suc};
 ghost use lib.ListN.{length};
 ghost use Rattle.base.specs.Lent.{lent};
 ghost use Rattle.base.specs.Refusals.{first, short};
+ghost use Rattle.prices.specs.PriceFile.{table-in};
+ghost use Rattle.prices.specs.PriceLaws.{Priced};
+ghost use Rattle.prices.specs.Tariff.{tariff, built-in, price-file};
 ghost use Rattle.model.specs.TableLists.{lists};
 ghost use Rattle.planner.specs.Answers.{least-verdict, least-answer, costs-left};
 ghost use Rattle.planner.specs.Asked.{asks};
@@ -17,10 +20,13 @@ use crate::requests::Summary;
 use crate::requests::load;
 use crate::table::fill;
 use base::Refusal;
+use base::Verdict;
 use base::bytes::clear64;
 use base::widths::size_from_u16;
 use base::widths::u32_from_u16;
 use base::widths::u64_from_size;
+use prices::built_in;
+use prices::file_fault;
 
 // How many costs n requests have.
 fn prefixes(n: u16) -> u32
@@ -62,17 +68,35 @@ fn costs_of(
     LeastCosts::Costs(prefixes(summary.requests))
 }
 
-// The least cost of each number of a log's first requests, from none to all (01's 'The plan').
-pub fn least(log: &[u8], costs: &mut [u64]) -> LeastCosts
-    ensures { λ r. ⌜ r ≡ least-answer (least-verdict (now (log .entry)) (length (now (costs .entry)))) (now (log .entry)) ⌝ }
-    ensures { λ _. ⌜ now (costs .exit) ≡ costs-left (now (log .entry)) (now (costs .entry)) ⌝ }
+// The least cost of each number of a log's first requests, from none to all (01's 'The plan'), by a price file and what that was answered.
+fn least_by(v: Verdict, prices: &[u8], log: &[u8], costs: &mut [u64]) -> LeastCosts
+    requires { ⌜ Priced (tariff v (table-in (now prices))) ⌝ }
+    ensures { λ r. ⌜ r ≡ least-answer (least-verdict (tariff v (table-in (now (prices .entry)))) (now (log .entry)) (length (now (costs .entry)))) (now (log .entry)) ⌝ }
+    ensures { λ _. ⌜ now (costs .exit) ≡ costs-left (tariff v (table-in (now (prices .entry)))) (now (log .entry)) (now (costs .entry)) ⌝ }
 {
     let mut seconds = [0u32; PLACES];
     let mut servers = [0u16; PLACES];
     let mut previous = [0u16; PLACES];
-    let loaded = load(log, &mut seconds, &mut servers, &mut previous);
+    let loaded = load(v, prices, log, &mut seconds, &mut servers, &mut previous);
     match loaded {
         Loaded::Refused(r) => LeastCosts::Refused(r),
         Loaded::Log(summary) => costs_of(summary, &seconds, &servers, &previous, costs),
     }
+}
+
+// The same by the built-in table.
+pub fn least(log: &[u8], costs: &mut [u64]) -> LeastCosts
+    ensures { λ r. ⌜ r ≡ least-answer (least-verdict built-in (now (log .entry)) (length (now (costs .entry)))) (now (log .entry)) ⌝ }
+    ensures { λ _. ⌜ now (costs .exit) ≡ costs-left built-in (now (log .entry)) (now (costs .entry)) ⌝ }
+{
+    let prices = built_in();
+    least_by(Verdict::Passed, &prices, log, costs)
+}
+
+// The same by a price file.
+pub fn least_with(prices: &[u8], log: &[u8], costs: &mut [u64]) -> LeastCosts
+    ensures { λ r. ⌜ r ≡ least-answer (least-verdict (price-file (now (prices .entry))) (now (log .entry)) (length (now (costs .entry)))) (now (log .entry)) ⌝ }
+    ensures { λ _. ⌜ now (costs .exit) ≡ costs-left (price-file (now (prices .entry))) (now (log .entry)) (now (costs .entry)) ⌝ }
+{
+    least_by(file_fault(prices), prices, log, costs)
 }

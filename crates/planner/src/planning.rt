@@ -3,6 +3,9 @@ ghost use mathlib.Core.Path.{_≡_};
 ghost use Prim.Native.Nat.{_<_, _≤_};
 ghost use lib.ListN.{length, take};
 ghost use Rattle.base.specs.declared.Verdict.the-variants.{Refused};
+ghost use Rattle.prices.specs.PriceFile.{table-in};
+ghost use Rattle.prices.specs.PriceLaws.{Priced};
+ghost use Rattle.prices.specs.Tariff.{tariff, built-in, price-file};
 ghost use Rattle.model.specs.Requests.{Within};
 ghost use Rattle.planner.specs.Answers.{plan-verdict, planned, marks-left, rows-left};
 ghost use Rattle.planner.specs.Asked.{asks};
@@ -19,6 +22,7 @@ use crate::rows::put_all;
 use crate::table::fill;
 use crate::walk::write_marks;
 use base::Refusal;
+use base::Verdict;
 use base::bytes::clear8;
 use base::bytes::clear32;
 use base::bytes::copy;
@@ -26,6 +30,8 @@ use base::widths::size_from_u16;
 use base::widths::size_from_u32;
 use base::widths::u64_from_size;
 use log::MOST_REQUESTS;
+use prices::built_in;
+use prices::file_fault;
 
 // 31: an output is shorter than what is needed.
 fn short(needed: usize) -> Planned
@@ -116,18 +122,39 @@ fn plan_of(
     )
 }
 
-// The cheapest schedule that there could have been for a log (01's 'The plan'): its cost, its marks as letters and its rows.
-pub fn plan(log: &[u8], marks: &mut [u8], rows: &mut [u32]) -> Planned
-    ensures { λ r. ⌜ r ≡ planned (plan-verdict (now (log .entry)) (length (now (marks .entry))) (length (now (rows .entry)))) (now (log .entry)) ⌝ }
-    ensures { λ _. ⌜ now (marks .exit) ≡ marks-left (now (log .entry)) (now (marks .entry)) (now (rows .entry)) ⌝ }
-    ensures { λ _. ⌜ now (rows .exit) ≡ rows-left (now (log .entry)) (now (marks .entry)) (now (rows .entry)) ⌝ }
+// The cheapest schedule that there could have been for a log (01's 'The plan'), by a price file and what that was answered: its cost, its marks as letters
+// and its rows.
+fn plan_by(v: Verdict, prices: &[u8], log: &[u8], marks: &mut [u8], rows: &mut [u32]) -> Planned
+    requires { ⌜ Priced (tariff v (table-in (now prices))) ⌝ }
+    ensures { λ r. ⌜ r ≡ planned (plan-verdict (tariff v (table-in (now (prices .entry)))) (now (log .entry)) (length (now (marks .entry))) (length (now (rows .entry)))) (tariff v (table-in (now (prices .entry)))) (now (log .entry)) ⌝ }
+    ensures { λ _. ⌜ now (marks .exit) ≡ marks-left (tariff v (table-in (now (prices .entry)))) (now (log .entry)) (now (marks .entry)) (now (rows .entry)) ⌝ }
+    ensures { λ _. ⌜ now (rows .exit) ≡ rows-left (tariff v (table-in (now (prices .entry)))) (now (log .entry)) (now (marks .entry)) (now (rows .entry)) ⌝ }
 {
     let mut seconds = [0u32; PLACES];
     let mut servers = [0u16; PLACES];
     let mut previous = [0u16; PLACES];
-    let loaded = load(log, &mut seconds, &mut servers, &mut previous);
+    let loaded = load(v, prices, log, &mut seconds, &mut servers, &mut previous);
     match loaded {
         Loaded::Refused(r) => Planned::Refused(r),
         Loaded::Log(summary) => plan_of(summary, &seconds, &servers, &previous, marks, rows),
     }
+}
+
+// The same by the built-in table.
+pub fn plan(log: &[u8], marks: &mut [u8], rows: &mut [u32]) -> Planned
+    ensures { λ r. ⌜ r ≡ planned (plan-verdict built-in (now (log .entry)) (length (now (marks .entry))) (length (now (rows .entry)))) built-in (now (log .entry)) ⌝ }
+    ensures { λ _. ⌜ now (marks .exit) ≡ marks-left built-in (now (log .entry)) (now (marks .entry)) (now (rows .entry)) ⌝ }
+    ensures { λ _. ⌜ now (rows .exit) ≡ rows-left built-in (now (log .entry)) (now (marks .entry)) (now (rows .entry)) ⌝ }
+{
+    let prices = built_in();
+    plan_by(Verdict::Passed, &prices, log, marks, rows)
+}
+
+// The same by a price file.
+pub fn plan_with(prices: &[u8], log: &[u8], marks: &mut [u8], rows: &mut [u32]) -> Planned
+    ensures { λ r. ⌜ r ≡ planned (plan-verdict (price-file (now (prices .entry))) (now (log .entry)) (length (now (marks .entry))) (length (now (rows .entry)))) (price-file (now (prices .entry))) (now (log .entry)) ⌝ }
+    ensures { λ _. ⌜ now (marks .exit) ≡ marks-left (price-file (now (prices .entry))) (now (log .entry)) (now (marks .entry)) (now (rows .entry)) ⌝ }
+    ensures { λ _. ⌜ now (rows .exit) ≡ rows-left (price-file (now (prices .entry))) (now (log .entry)) (now (marks .entry)) (now (rows .entry)) ⌝ }
+{
+    plan_by(file_fault(prices), prices, log, marks, rows)
 }

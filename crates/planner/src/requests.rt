@@ -5,6 +5,8 @@ ghost use Prim.Native.Nat.{ℕ, _≤_, _<_};
 ghost use lib.ListN.{length, take, drop, set};
 ghost use Rattle.base.specs.declared.Verdict.the-variants.{Passed};
 ghost use Rattle.base.specs.Lent.{lent};
+ghost use Rattle.prices.specs.PriceFile.{table-in};
+ghost use Rattle.prices.specs.Tariff.{tariff};
 ghost use Rattle.log.specs.Fields.{request-count, seconds-of, servers-of};
 ghost use Rattle.log.specs.Conditions.{verdict-of};
 ghost use Rattle.log.specs.Answers.{decoded};
@@ -15,12 +17,13 @@ ghost use Rattle.planner.specs.Loading.{seconds-with-home, servers-with-
 use crate::NONE;
 use crate::PLACES;
 use base::Refusal;
+use base::Verdict;
 use base::bytes::clear16;
 use base::widths::size_from_u16;
 use base::widths::u16_from_u8;
 use log::Decoded;
 use log::ReadOutcome;
-use log::read;
+use log::read_by;
 use prices::Prices;
 use prices::of_class;
 
@@ -63,29 +66,37 @@ fn link(servers: &[u16; PLACES], n: u16, previous: &mut [u16])
     clear16(previous, size_from_u16(n) + 1);
 }
 
-// Read a log, its requests from index 1 on.
-fn read_requests(log: &[u8], seconds: &mut [u32], servers: &mut [u16]) -> Decoded
+// Read a log by a price file and what that was answered, its requests from index 1 on.
+fn read_requests(
+    v: Verdict,
+    prices: &[u8],
+    log: &[u8],
+    seconds: &mut [u32],
+    servers: &mut [u16],
+) -> Decoded
     requires { ⌜ (length (now seconds) ≡ places) × (length (now servers) ≡ places) ⌝ }
-    ensures { λ r. ⌜ r ≡ decoded (verdict-of (now (log .entry))) (now (log .entry)) ⌝ }
-    ensures { λ _. ⌜ now (seconds .exit) ≡ take 1 (now (seconds .entry)) ++ lent (verdict-of (now (log .entry))) (seconds-of (now (log .entry))) (drop 1 (now (seconds .entry))) ⌝ }
-    ensures { λ _. ⌜ now (servers .exit) ≡ take 1 (now (servers .entry)) ++ lent (verdict-of (now (log .entry))) (servers-of (now (log .entry))) (drop 1 (now (servers .entry))) ⌝ }
+    ensures { λ r. ⌜ r ≡ decoded (verdict-of (tariff v (table-in (now (prices .entry)))) (now (log .entry))) (now (log .entry)) ⌝ }
+    ensures { λ _. ⌜ now (seconds .exit) ≡ take 1 (now (seconds .entry)) ++ lent (verdict-of (tariff v (table-in (now (prices .entry)))) (now (log .entry))) (seconds-of (now (log .entry))) (drop 1 (now (seconds .entry))) ⌝ }
+    ensures { λ _. ⌜ now (servers .exit) ≡ take 1 (now (servers .entry)) ++ lent (verdict-of (tariff v (table-in (now (prices .entry)))) (now (log .entry))) (servers-of (now (log .entry))) (drop 1 (now (servers .entry))) ⌝ }
 {
-    read(log, &mut seconds[1..], &mut servers[1..])
+    read_by(v, prices, log, &mut seconds[1..], &mut servers[1..])
 }
 
-// Read a log: the seconds and servers of its requests, the previous request of each, and what else it says.
+// The same: the seconds and servers of its requests, the previous request of each, and what else it says.
 pub fn load(
+    v: Verdict,
+    prices: &[u8],
     log: &[u8],
     seconds: &mut [u32; PLACES],
     servers: &mut [u16; PLACES],
     previous: &mut [u16; PLACES],
 ) -> Loaded
-    ensures { λ r. ⌜ r ≡ loaded (verdict-of (now (log .entry))) (now (log .entry)) ⌝ }
-    ensures { λ _. ⌜ now (seconds .exit) ≡ lent (verdict-of (now (log .entry))) (seconds-with-home (now (log .entry))) (now (seconds .entry)) ⌝ }
-    ensures { λ _. ⌜ now (servers .exit) ≡ lent (verdict-of (now (log .entry))) (servers-with-home (now (log .entry))) (now (servers .entry)) ⌝ }
-    ensures { λ _. ⌜ now (previous .exit) ≡ lent (verdict-of (now (log .entry))) (links (servers-with-home (now (log .entry))) (request-count (now (log .entry)))) (now (previous .entry)) ⌝ }
+    ensures { λ r. ⌜ r ≡ loaded (verdict-of (tariff v (table-in (now (prices .entry)))) (now (log .entry))) (tariff v (table-in (now (prices .entry)))) (now (log .entry)) ⌝ }
+    ensures { λ _. ⌜ now (seconds .exit) ≡ lent (verdict-of (tariff v (table-in (now (prices .entry)))) (now (log .entry))) (seconds-with-home (now (log .entry))) (now (seconds .entry)) ⌝ }
+    ensures { λ _. ⌜ now (servers .exit) ≡ lent (verdict-of (tariff v (table-in (now (prices .entry)))) (now (log .entry))) (servers-with-home (now (log .entry))) (now (servers .entry)) ⌝ }
+    ensures { λ _. ⌜ now (previous .exit) ≡ lent (verdict-of (tariff v (table-in (now (prices .entry)))) (now (log .entry))) (links (servers-with-home (now (log .entry))) (request-count (now (log .entry)))) (now (previous .entry)) ⌝ }
 {
-    let decoded = read_requests(log, seconds, servers);
+    let decoded = read_requests(v, prices, log, seconds, servers);
     let outcome = decoded.outcome;
     let header = decoded.header;
     match outcome {
@@ -97,7 +108,7 @@ pub fn load(
             Loaded::Log(Summary {
                 requests: n,
                 server_count: header.server_count,
-                prices: of_class(header.class),
+                prices: of_class(prices, header.class),
             })
         }
     }

@@ -1,6 +1,9 @@
 -- Crate prices.
 -- What a reader believes: the definitions.
 pub mod Prices
+pub mod PriceFile
+pub mod Tariff
 -- What is proved of them.
 pub mod PriceLaws
+pub mod FileLaws
 pub mod WindowLaws

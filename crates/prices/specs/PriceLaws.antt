@@ -1,30 +1,28 @@
--- The table: what stands past it, its two columns, and its rule, that every class has prices from 1 to 1,000,000. Assumes nothing.
-use mathlib.Core.Bool.{Bool, true}
-use mathlib.Core.List.{map}
-use mathlib.Core.Logic.{_⊎_, inl, inr}
-use mathlib.Core.Path.{_≡_, refl, sym, ap₂}
+-- Prices in range, 1 to 1,000,000: what the test tells, and that each class of the built-in table and of every price file that loads is. Assumes nothing.
+use mathlib.Core.Bool.{Bool, false, not}
+use mathlib.Core.List.{List}
+use mathlib.Core.Logic.{_≢_, _↔_}
+use mathlib.Core.Path.{_≡_, refl, sym, ap, _∙_}
 use native.Mathlib.Omega.{arith}
-use Prim.Native.Nat.{ℕ, _≤_, _<_}
-use lib.Dec.{leb}
-use lib.ListN.{getD, List·getD-eq-default, List·getD-map}
-use borrow.Author.Tests.{leb-true}
-use Rattle.base.specs.Choice.{both, le-or-lt}
-use Rattle.base.specs.ChoiceLaws.{both-true}
-use Rattle.base.specs.Lists.{every, every-at}
+use Prim.Native.Nat.{ℕ, suc, _≤_, _<_}
+use lib.Dec.{ltb, eqb}
+use lib.ListN.{length, List·getD-eq-default}
+use borrow.Author.Tests.{ltb-false, eqb-false, le-ltb, ne-eqb, not-true}
+use Rattle.base.specs.Choice.{either}
+use Rattle.base.specs.ChoiceLaws.{either-false, neither-of}
+use Rattle.base.specs.Refusals.{each}
+use Rattle.base.specs.RefusalLaws.{append-passed, first-passed, each-passed}
+use Rattle.base.specs.declared.Verdict.the-variants.{Passed}
+use Rattle.base.specs.Lists.{build-length, build-at, every, every-at}
 use Rattle.prices.specs.declared.Prices.{Prices}
-use Rattle.prices.specs.Prices.{priced, classes, prices-of}
+use Rattle.prices.specs.Prices.{priced, classes, prices-of, outside}
+use Rattle.prices.specs.PriceFile.{class-count, pair-at, table-in, pair-condition, file-conditions}
+use Rattle.prices.specs.Tariff.{Tariff, tariff, built-in, price-file, Given, none, file}
 
 -- a number that is no class has no price
-pub no-class : (class : ℕ) → 8 ≤ class → prices-of class ≡ priced 0 0
-unfolding prices-of classes
-no-class class h = List·getD-eq-default classes (priced 0 0) h
-
--- the table by its columns
-pub columns : (class : ℕ)
-    → prices-of class ≡ priced (getD (map (λ p. p .hold) classes) class 0) (getD (map (λ p. p .transfer) classes) class 0)
+pub no-class : (table : List Prices) (class : ℕ) → length table ≤ class → prices-of table class ≡ priced 0 0
 unfolding prices-of
-columns class =
-    ap₂ priced (sym (List·getD-map (λ p. p .hold) classes class (priced 0 0))) (sym (List·getD-map (λ p. p .transfer) classes class (priced 0 0)))
+no-class table class h = List·getD-eq-default table (priced 0 0) h
 
 -- both prices are from 1 to 1,000,000
 pub record In-range (p : Prices) : Type 0 where
@@ -33,28 +31,64 @@ pub record In-range (p : Prices) : Type 0 where
   pub transfer-least : 1 ≤ p .transfer
   pub transfer-most : p .transfer ≤ 1000000
 
--- the same as a test
-in-range : Prices → Bool
-in-range p = both (both (leb 1 (p .hold)) (leb (p .hold) 1000000)) (both (leb 1 (p .transfer)) (leb (p .transfer) 1000000))
+-- such a price, both ways
+range-of : (x : ℕ) → either (eqb x 0) (ltb 1000000 x) ≡ false → (1 ≤ x) × (x ≤ 1000000)
+range-of x e =
+    let (p, q) = either-false (eqb x 0) (ltb 1000000 x) e in
+    let no : x ≢ 0 = eqb-false x 0 p in omega (arith, ltb-false)
 
--- what passes the test is in range
-in-range-true : (p : Prices) → in-range p ≡ true → In-range p
-unfolding in-range
-in-range-true p e =
-    let (h, t) = both-true _ _ e in
-    let (h₁, h₂) = both-true _ _ h in
-    let (t₁, t₂) = both-true _ _ t in
-    record { hold-least = leb-true _ _ h₁; hold-most = leb-true _ _ h₂; transfer-least = leb-true _ _ t₁; transfer-most = leb-true _ _ t₂ }
+of-range : (x : ℕ) → 1 ≤ x → x ≤ 1000000 → either (eqb x 0) (ltb 1000000 x) ≡ false
+of-range x l h = neither-of (ne-eqb x 0 (omega arith)) (le-ltb 1000000 x h)
 
--- every class of the table passes it
-pub class-in-range : (class : ℕ) → class < 8 → In-range (prices-of class)
-unfolding prices-of classes in-range every
-class-in-range class l = in-range-true (prices-of class) (every-at in-range classes (priced 0 0) class refl l)
-
--- no price is above 1,000,000, that of no class either
-pub prices-most : (class : ℕ) → (prices-of class .hold ≤ 1000000) × (prices-of class .transfer ≤ 1000000)
-prices-most class = go (le-or-lt 8 class)
+-- prices are in range exactly if none is outside it
+pub in-range : (p : Prices) → (outside p ≡ false) ↔ In-range p
+unfolding outside
+in-range p = (to, from)
   where
-    go : (8 ≤ class) ⊎ (class < 8) → (prices-of class .hold ≤ 1000000) × (prices-of class .transfer ≤ 1000000)
-    go (inl h) = rw (no-class class h) (omega arith)
-    go (inr h) = let r = class-in-range class h in (r .hold-most, r .transfer-most)
+    to : outside p ≡ false → In-range p
+    to e =
+        let (h, t) = either-false _ _ e in
+        let hold = range-of (p .hold) h in
+        let transfer = range-of (p .transfer) t in
+        record { hold-least = hold .0; hold-most = hold .1; transfer-least = transfer .0; transfer-most = transfer .1 }
+
+    from : In-range p → outside p ≡ false
+    from r =
+        neither-of (of-range (p .hold) (r .hold-least) (r .hold-most)) (of-range (p .transfer) (r .transfer-least) (r .transfer-most))
+
+-- every class of a table is in range
+abbrev pub Ranged : List Prices → Type 0
+Ranged table = (class : ℕ) → class < length table → In-range (prices-of table class)
+
+-- every class of a tariff is, if its file is not refused
+abbrev pub Priced : Tariff → Type 0
+Priced t = t .judged ≡ Passed → Ranged (t .table)
+
+-- the built-in table
+pub classes-ranged : Ranged classes
+unfolding prices-of classes outside every
+classes-ranged class l =
+    in-range (prices-of classes class) .0 (not-true _ (every-at (λ (p : Prices). not (outside p)) classes (priced 0 0) class refl l))
+
+-- the classes of a price file
+pub table-length : (bytes : List ℕ) → length (table-in bytes) ≡ class-count bytes
+unfolding table-in
+table-length bytes = build-length (class-count bytes) (pair-at bytes)
+
+pub table-at : (bytes : List ℕ) (class : ℕ) → class < class-count bytes → prices-of (table-in bytes) class ≡ pair-at bytes class
+unfolding prices-of table-in
+table-at bytes class l = build-at (class-count bytes) (pair-at bytes) class (priced 0 0) l
+
+-- where neither 37 nor 38 refuses a price file its classes are in range
+pub file-priced : (bytes : List ℕ) → Priced (price-file bytes)
+unfolding file-conditions pair-condition
+file-priced bytes e class l =
+    let m : class < class-count bytes = omega (arith, table-length bytes) in
+    let pairs = first-passed (each (pair-condition bytes) (class-count bytes)) .1 (λ i. first-passed (file-conditions bytes) .0 e (suc i)) in
+    let fits = first-passed (pair-condition bytes class) .0 (each-passed (pair-condition bytes) (class-count bytes) .0 pairs class m) 0 in
+    rw (table-at bytes class m) (in-range (pair-at bytes class) .0 fits)
+
+-- both that there are
+pub given-priced : (t : Tariff) → Given t → Priced t
+given-priced t none e = classes-ranged
+given-priced t (file bytes) e = file-priced bytes e

@@ -1,14 +1,17 @@
--- 01's 'Prices': the table of classes, and the window of a pair of prices. Assumes nothing.
+-- 01's 'Prices': the table of classes, the prices of a class, their range and their window. Assumes nothing.
+use mathlib.Core.Bool.{Bool}
 use mathlib.Core.List.{List, [], _∷_}
 use Prim.Native.Nat.{ℕ, _/_}
+use lib.Dec.{ltb, eqb}
 use lib.ListN.{getD}
+use Rattle.base.specs.Choice.{either}
 use Rattle.prices.specs.declared.Prices.{Prices}
 
 -- a hold price and a transfer price
 abbrev pub priced : ℕ → ℕ → Prices
 priced h t = record { hold = h; transfer = t }
 
--- the table, class 0 first
+-- the built-in table, class 0 first
 unfoldable pub classes : List Prices
 classes =
     priced 1 10
@@ -21,9 +24,13 @@ classes =
     ∷ priced 1 1000000
     ∷ []
 
--- the prices of a class, zeros past the table
-unfoldable pub prices-of : ℕ → Prices
-prices-of class = getD classes class (priced 0 0)
+-- the prices of a class of a table, zeros past it
+unfoldable pub prices-of : List Prices → ℕ → Prices
+prices-of table class = getD table class (priced 0 0)
+
+-- a price is 0 or above 1,000,000
+unfoldable pub outside : Prices → Bool
+outside p = either (either (eqb (p .hold) 0) (ltb 1000000 (p .hold))) (either (eqb (p .transfer) 0) (ltb 1000000 (p .transfer)))
 
 -- the transfer price divided by the hold price, rounded down; 0 where the hold price is 0
 unfoldable pub window : Prices → ℕ

@@ -1,33 +1,40 @@
-// The price classes of 01's 'Prices'.
-ghost use mathlib.Core.Path.{_≡_};
-ghost use Rattle.prices.specs.Prices.{prices-of, window};
+// The prices of 01's 'Prices' and of 02's price files.
+mod file;
 
-// What a class costs: the hold price of a copy and second (01: keep), and the transfer price (01: send).
+ghost use mathlib.Core.Path.{_≡_};
+ghost use lib.Dec.{ltb, eqb};
+ghost use Rattle.base.specs.Choice.{either};
+ghost use Rattle.prices.specs.Prices.{outside, window};
+pub use file::built_in;
+pub use file::class_count;
+pub use file::file_fault;
+pub use file::of_class;
+
+// What a class costs: the hold price of a copy and second (01: keep), and the transfer price (01: send). Its layout is C's.
+#[repr(C)]
 pub struct Prices {
     pub hold: u32,
     pub transfer: u32,
 }
 
-// The two columns of the table, by class.
-const HOLD: [u32; 8] = [1, 1, 2, 3, 3, 5, 7, 1];
-
-const TRANSFER: [u32; 8] = [10, 25, 25, 30, 100, 600, 5, 1000000];
-
-// The prices of a class; zeros for a number that is no class.
-pub fn of_class(class: u8) -> Prices
-    ensures { λ r. ⌜ r ≡ prices-of class ⌝ }
+// A price is 0 or above 1,000,000.
+fn price_outside(price: u32) -> bool
+    ensures { λ r. ⌜ r ≡ either (eqb price 0) (ltb 1000000 price) ⌝ }
 {
-    if 8 <= class {
-        return Prices {
-            hold: 0,
-            transfer: 0,
-        };
+    if price == 0 {
+        return true;
     }
-    let i = class as usize;
-    Prices {
-        hold: HOLD[i],
-        transfer: TRANSFER[i],
+    1000000 < price
+}
+
+// One of the two is.
+pub fn outside(prices: Prices) -> bool
+    ensures { λ r. ⌜ r ≡ outside prices ⌝ }
+{
+    if price_outside(prices.hold) {
+        return true;
     }
+    price_outside(prices.transfer)
 }
 
 // The window: the transfer price divided by the hold price, rounded down; 0 where holding is free.

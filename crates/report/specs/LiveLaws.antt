@@ -11,6 +11,7 @@ use Rattle.base.specs.Refusals.{first}
 use Rattle.base.specs.Lists.{build}
 use Rattle.base.specs.declared.Verdict.{Verdict}
 use Rattle.base.specs.declared.Verdict.the-variants.{Passed}
+use Rattle.prices.specs.Tariff.{built-in}
 use Rattle.log.specs.Fields.{setup-of, request-count, seconds-of, servers-of}
 use Rattle.log.specs.Conditions.{Accepted}
 use Rattle.log.specs.Ranges as ranges
@@ -24,7 +25,7 @@ use Rattle.online.specs.Conditions.{scan-conditions, close-conditions}
 use Rattle.online.specs.Answers.{start-verdict, scan-verdict, close-verdict, started, started-by, mark-outcome, scanned, scanned-by}
 use Rattle.bounds.specs.Calls.{Call, scan, after, run}
 use Rattle.bounds.specs.CallLaws.{after-scan}
-use Rattle.online.specs.Passed.{start-passed}
+use Rattle.online.specs.Passed.{Startable, start-passed}
 use Rattle.online.specs.Intact.{Intact, intact-unbroken}
 use Rattle.bounds.specs.Reached.{Reached, reached-fresh, reached-scan, reached-intact}
 use Rattle.report.specs.declared.live.Turn.{Turn}
@@ -94,17 +95,20 @@ unfolding scan-verdict scan-conditions first
 scan-passes c second server a b d s e f g =
     rw (lt-leb _ _ a, ne-eqb second 0 (λ z. omega arith), le-ltb _ _ d, intact-unbroken c s, lt-leb _ _ f, lt-leb _ _ g, e)
 
-module _ (log : List ℕ) (a : Accepted log) where
+module _ (log : List ℕ) (a : Accepted built-in log) where
   -- what the log has
   abbrev facts : ranges.Sound log
-  facts = accepted.accepted-sound log a
+  facts = accepted.accepted-sound built-in log a
+
+  allowed : Startable (setup-of log)
+  allowed = (accepted.accepted-class built-in log a, facts .setup)
 
   abbrev q : Requests
   q = requests-in log
 
   -- its start is not refused
   pub starts : start-verdict (setup-of log) ≡ Passed
-  starts = start-passed (setup-of log) .1 (facts .setup)
+  starts = start-passed (setup-of log) .1 allowed
 
   pub opened-fresh : opened log ≡ fresh (setup-of log)
   unfolding opened started started-by
@@ -127,7 +131,7 @@ module _ (log : List ℕ) (a : Accepted log) where
 
   -- 32 does not hold of it
   intact-at : (k : ℕ) → At k → Intact (state k)
-  intact-at k s = reached-intact (setup-of log) (facts .setup) q (state k) k (s .reached)
+  intact-at k s = reached-intact (setup-of log) allowed q (state k) k (s .reached)
 
   -- the scan of the next request passes
   passes : (k : ℕ) → k < request-count log → At k → scan-verdict (state k) (second k) (server k) ≡ Passed
@@ -145,7 +149,7 @@ module _ (log : List ℕ) (a : Accepted log) where
   unfolding state-after scans build run fresh requests-in requests
   at-start =
       record {
-        reached = rw opened-fresh (reached-fresh (setup-of log) (facts .setup) q refl refl);
+        reached = rw opened-fresh (reached-fresh (setup-of log) allowed q refl refl);
         unclosed = rw opened-fresh refl;
       }
 

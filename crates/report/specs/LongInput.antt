@@ -12,11 +12,13 @@ use borrow.Author.Tests.{le-ltb, ltb-false, eqb-true, not-false, ne-eqb}
 use Rattle.base.specs.Choice.{either, le-or-lt}
 use Rattle.base.specs.ChoiceLaws.{either-false}
 use Rattle.base.specs.Bytes.{byte, le16, le32}
-use Rattle.base.specs.Refusals.{Condition, refuse, first, each}
-use Rattle.base.specs.RefusalLaws.{otherwise, first-append, first-met, first-passed}
+use Rattle.base.specs.Refusals.{Condition, refuse, first, each, otherwise}
+use Rattle.base.specs.RefusalLaws.{first-append, first-met, first-passed}
 use Rattle.base.specs.declared.Refusal.{Refusal}
 use Rattle.base.specs.declared.Verdict.{Verdict}
 use Rattle.base.specs.declared.Verdict.the-variants.{Passed, Refused}
+use Rattle.prices.specs.Tariff.{built-in}
+use Rattle.prices.specs.Prices.{classes}
 use Rattle.log.specs.Sizes.{most-requests, log-room}
 use Rattle.log.specs.Fields.{version, class-of, server-count, home-of, setup-of, request-count, requests-offset, id-offset, total-length, written-sum, length-for}
 use Rattle.log.specs.Sum.{sum-of}
@@ -29,7 +31,7 @@ abbrev early : List ℕ → List Condition
 early s =
     refuse 1 0 (ltb (length s) 40)
     ∷ refuse 2 0 (not (eqb (version s) 1))
-    ∷ (setup-conditions (setup-of s)
+    ∷ (setup-conditions classes (setup-of s)
     ++ (refuse 6 0 (not (eqb (byte s 5) 0))
     ∷ refuse 7 0 (ltb most-requests (request-count s))
     ∷ refuse 8 0
@@ -50,7 +52,7 @@ abbrev by-form : List ℕ → Verdict
 by-form s = otherwise (first (early s)) (Refused (record { number = 9; place = 0 }))
 
 -- what refuses a log that is longer than any can be
-long-verdict : (s : List ℕ) → log-room < length s → verdict-of s ≡ by-form s
+long-verdict : (s : List ℕ) → log-room < length s → verdict-of built-in s ≡ by-form s
 unfolding verdict-of log-conditions header-conditions setup-conditions length-for
 long-verdict s h = first-append (early s) (ninth s ∷ late s) ∙ go (first (early s)) refl
   where
@@ -101,7 +103,7 @@ refused-or-nine Passed = refl
 refused-or-nine (Refused r) = refl
 
 -- a longer input is refused, and so are its first bytes, alike
-long-refused : (s : List ℕ) → limit ≤ length s → (r : Refusal) × (verdict-of (take limit s) ≡ Refused r) × (verdict-of s ≡ Refused r)
+long-refused : (s : List ℕ) → limit ≤ length s → (r : Refusal) × (verdict-of built-in (take limit s) ≡ Refused r) × (verdict-of built-in s ≡ Refused r)
 unfolding limit
 long-refused s h =
     let long = length-take-le limit s h in

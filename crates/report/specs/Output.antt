@@ -3,6 +3,7 @@ use mathlib.Core.List.{List}
 use Prim.Native.Nat.{ℕ, _+_}
 use Rattle.base.specs.declared.Verdict.{Verdict}
 use Rattle.base.specs.declared.Verdict.the-variants.{Passed, Refused}
+use Rattle.prices.specs.Tariff.{built-in}
 use Rattle.log.specs.Sizes.{log-room}
 use Rattle.log.specs.Conditions.{verdict-of}
 use Rattle.report.specs.Sheet.{sheet-of}
@@ -15,7 +16,7 @@ output-by (Refused r) log = refusal-text r
 
 -- what is written for the bytes of an input
 unfoldable pub output : List ℕ → List ℕ
-output log = output-by (verdict-of log) log
+output log = output-by (verdict-of built-in log) log
 
 -- how many bytes of an input are read at most: one more than the longest log has
 unfoldable pub limit : ℕ

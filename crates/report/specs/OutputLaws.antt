@@ -8,6 +8,7 @@ use Rattle.base.specs.Lent.{lent}
 use Rattle.base.specs.declared.Refusal.{Refusal}
 use Rattle.base.specs.declared.Verdict.{Verdict}
 use Rattle.base.specs.declared.Verdict.the-variants.{Passed, Refused}
+use Rattle.prices.specs.Tariff.{built-in}
 use Rattle.log.specs.Conditions.{Accepted, verdict-of}
 use Rattle.text.specs.declared.Printed.the-variants as print
 use Rattle.text.specs.Answers.{printed}
@@ -22,7 +23,7 @@ use Rattle.report.specs.SheetLength.{sheet-fits}
 
 module _ (log text : List ℕ) (room : sheet-room ≤ length text) where
   -- an accepted log's sheet is printed
-  printed-sheet : Accepted log → sheet-verdict log (length text) ≡ Passed
+  printed-sheet : Accepted built-in log → sheet-verdict log (length text) ≡ Passed
   printed-sheet a = sheet-accepted log (length text) a ∙ room-passed (sheet-of log) (length text) (omega (arith, sheet-fits log a))
 
   -- a sheet that was printed is what the program writes
@@ -30,9 +31,9 @@ module _ (log text : List ℕ) (room : sheet-room ≤ length text) where
       → text′ ≡ lent (sheet-verdict log (length text)) (sheet-of log) text
       → (n ≤ length text′) × (take n text′ ≡ output log)
   unfolding output output-by Accepted printed
-  sheet-stands n text′ f g = go (verdict-of log) refl
+  sheet-stands n text′ f g = go (verdict-of built-in log) refl
     where
-      go : (v : Verdict) → verdict-of log ≡ v → (n ≤ length text′) × (take n text′ ≡ output-by (verdict-of log) log)
+      go : (v : Verdict) → verdict-of built-in log ≡ v → (n ≤ length text′) × (take n text′ ≡ output-by (verdict-of built-in log) log)
       go Passed e = rw e (stands _ (sheet-of log) text text′ n (printed-sheet e) f g)
       go (Refused r) e =
           let z : print.Refused r ≡ print.Length n = rw (sheet-refused log (length text) r e) at f in
@@ -41,9 +42,9 @@ module _ (log text : List ℕ) (room : sheet-room ≤ length text) where
   -- and so is the line of what refused it
   pub sheet-refuses : (r : Refusal) → printed (sheet-verdict log (length text)) (sheet-of log) ≡ print.Refused r → refusal-text r ≡ output log
   unfolding output output-by Accepted printed
-  sheet-refuses r f = go (verdict-of log) refl
+  sheet-refuses r f = go (verdict-of built-in log) refl
     where
-      go : (v : Verdict) → verdict-of log ≡ v → refusal-text r ≡ output-by (verdict-of log) log
+      go : (v : Verdict) → verdict-of built-in log ≡ v → refusal-text r ≡ output-by (verdict-of built-in log) log
       go Passed e =
           let z : print.Length (length (sheet-of log)) ≡ print.Refused r = rw (printed-sheet e) at f in
           absurd (let z : _≡_ {A = ℕ} 0 1 = cc in omega arith)

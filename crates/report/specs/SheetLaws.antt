@@ -6,11 +6,13 @@ use native.Mathlib.Omega.{arith}
 use lib.ListN.{length}
 use borrow.Author.Tests.{le-ltb}
 use Rattle.base.specs.Lists.{build, build-same}
-use Rattle.base.specs.Refusals.{first, short}
-use Rattle.base.specs.RefusalLaws.{otherwise, first-append}
+use Rattle.base.specs.Refusals.{first, short, otherwise}
+use Rattle.base.specs.RefusalLaws.{first-append}
 use Rattle.base.specs.declared.Refusal.{Refusal}
 use Rattle.base.specs.declared.Verdict.{Verdict}
 use Rattle.base.specs.declared.Verdict.the-variants.{Passed, Refused}
+use Rattle.prices.specs.Tariff.{built-in}
+use Rattle.prices.specs.Prices.{classes}
 use Rattle.log.specs.Sizes.{most-requests}
 use Rattle.log.specs.Fields.{request-count, server-count, seconds-of, servers-of}
 use Rattle.log.specs.Conditions.{Accepted, log-conditions, verdict-of}
@@ -34,41 +36,41 @@ use Rattle.report.specs.Sheet.{columns-of, sheet-of, sheet-verdict}
 use Rattle.report.specs.Text.{columns, entry-of, sheet-text}
 
 -- conditions that fail after an accepted log
-passed-after : (log : List ℕ) (xs : _) → Accepted log → first (log-conditions log ++ xs) ≡ first xs
+passed-after : (log : List ℕ) (xs : _) → Accepted built-in log → first (log-conditions classes log ++ xs) ≡ first xs
 unfolding Accepted verdict-of
-passed-after log xs a = first-append (log-conditions log) xs ∙ ap (λ (v : Verdict). otherwise v (first xs)) a
+passed-after log xs a = first-append (log-conditions classes log) xs ∙ ap (λ (v : Verdict). otherwise v (first xs)) a
 
 -- a refused log is refused
-pub sheet-refused : (log : List ℕ) (room : ℕ) (r : Refusal) → verdict-of log ≡ Refused r → sheet-verdict log room ≡ Refused r
+pub sheet-refused : (log : List ℕ) (room : ℕ) (r : Refusal) → verdict-of built-in log ≡ Refused r → sheet-verdict log room ≡ Refused r
 unfolding sheet-verdict verdict-of
 sheet-refused log room r e =
     let xs = short (length (sheet-of log)) room ∷ [] in
-    first-append (log-conditions log) xs ∙ ap (λ (v : Verdict). otherwise v (first xs)) e
+    first-append (log-conditions classes log) xs ∙ ap (λ (v : Verdict). otherwise v (first xs)) e
 
 -- the sheet of an accepted log needs room
-pub sheet-accepted : (log : List ℕ) (room : ℕ) → Accepted log → sheet-verdict log room ≡ room-verdict (sheet-of log) room
+pub sheet-accepted : (log : List ℕ) (room : ℕ) → Accepted built-in log → sheet-verdict log room ≡ room-verdict (sheet-of log) room
 unfolding sheet-verdict room-verdict
 sheet-accepted log room a = passed-after log (short (length (sheet-of log)) room ∷ []) a
 
-module _ (log : List ℕ) (a : Accepted log) where
+module _ (log : List ℕ) (a : Accepted built-in log) where
   -- its least costs are found
-  pub least-passes : least-verdict log places ≡ Passed
+  pub least-passes : least-verdict built-in log places ≡ Passed
   unfolding least-verdict first
-  least-passes = passed-after log _ a ∙ rw (le-ltb places (suc (request-count log)) (omega (arith, accepted-sound log a .requests-most)))
+  least-passes = passed-after log _ a ∙ rw (le-ltb places (suc (request-count log)) (omega (arith, accepted-sound built-in log a .requests-most)))
 
   -- its plan has at most two rows for each request
-  pub few-rows : length (planned-rows log) ≤ 2 * request-count log
+  pub few-rows : length (planned-rows built-in log) ≤ 2 * request-count log
   unfolding planned-rows plan-rows rows
-  few-rows = rows-few (requests-in log) (server-count log) _ (request-count log) _ (log-within log a)
+  few-rows = rows-few (requests-in log) (server-count log) _ (request-count log) _ (log-within built-in log a)
 
   -- and is found
-  pub plan-passes : plan-verdict log most-requests rows-room ≡ Passed
+  pub plan-passes : plan-verdict built-in log most-requests rows-room ≡ Passed
   unfolding plan-verdict rows-of-plan first
   plan-passes =
       passed-after log _ a
       ∙ rw (
-        le-ltb most-requests (request-count log) (accepted-sound log a .requests-most),
-        le-ltb rows-room (length (rows-of-plan log)) (omega (arith, flat-length (planned-rows log), few-rows, accepted-sound log a .requests-most)),
+        le-ltb most-requests (request-count log) (accepted-sound built-in log a .requests-most),
+        le-ltb rows-room (length (rows-of-plan built-in log)) (omega (arith, flat-length (planned-rows built-in log), few-rows, accepted-sound built-in log a .requests-most)),
       )
 
   -- the online cache goes through its requests, read from lists that hold them
@@ -80,15 +82,15 @@ module _ (log : List ℕ) (a : Accepted log) where
 
 -- lists that hold what the calls answer make the sheet
 pub sheet-made : (log : List ℕ) (n rows closing : ℕ) (cache : Cache) (seconds servers plan live least costs : List ℕ)
-    → n ≡ request-count log → rows ≡ length (planned-rows log) → cache ≡ opened log
-    → Alike seconds (seconds-of log) → Alike servers (servers-of log) → Alike plan (marks-of log) → Alike least (least-costs log)
+    → n ≡ request-count log → rows ≡ length (planned-rows built-in log) → cache ≡ opened log
+    → Alike seconds (seconds-of log) → Alike servers (servers-of log) → Alike plan (marks-of built-in log) → Alike least (least-costs built-in log)
     → Alike live (build n (live-mark cache seconds servers)) → Alike costs (build n (live-cost cache seconds servers))
     → closing ≡ closing-cost log
     → sheet-text (entry-of (columns seconds servers plan live least costs)) n rows closing ≡ sheet-of log
 unfolding sheet-of columns-of live-marks running-costs
 sheet-made log n rows closing cache seconds servers plan live least costs e f g h k l m p q z =
     rw (e, f, z)
-    (sheet-alike (columns seconds servers plan live least costs) (columns-of log) (request-count log) (length (planned-rows log)) (closing-cost log) h k l (λ i. rw (← marks) (p i)) m
+    (sheet-alike (columns seconds servers plan live least costs) (columns-of log) (request-count log) (length (planned-rows built-in log)) (closing-cost log) h k l (λ i. rw (← marks) (p i)) m
     (λ i. rw (← amounts) (q i)))
   where
     marks : build n (live-mark cache seconds servers) ≡ live-marks log
@@ -102,7 +104,7 @@ sheet-made log n rows closing cache seconds servers plan live least costs e f g 
         (build-same (request-count log) _ _ (λ j b. cost-alike (opened log) seconds servers (seconds-of log) (servers-of log) h k j))
 
 -- the close after a log's requests gives its closing cost
-pub closing-made : (log : List ℕ) (n : ℕ) (cache end : Cache) (seconds servers : List ℕ) → Accepted log
+pub closing-made : (log : List ℕ) (n : ℕ) (cache end : Cache) (seconds servers : List ℕ) → Accepted built-in log
     → n ≡ request-count log → cache ≡ opened log → Alike seconds (seconds-of log) → Alike servers (servers-of log)
     → end ≡ state-after cache seconds servers n → close-cost (closed-answer end .outcome) ≡ closing-cost log
 unfolding closing-cost close-cost closed-answer closed-by

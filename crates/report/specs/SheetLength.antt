@@ -4,6 +4,8 @@ use Prim.Native.Nat.{ℕ, zero, suc, _*_, _^_, _≤_, _<_}
 use native.Mathlib.Omega.{arith}
 use lib.ListN.{getD, length}
 use Rattle.base.specs.Lists.{build-at}
+use Rattle.prices.specs.Tariff.{built-in}
+use Rattle.prices.specs.PriceLaws.{classes-ranged}
 use Rattle.log.specs.Fields.{request-count, seconds-of, servers-of}
 use Rattle.log.specs.Conditions.{Accepted}
 use Rattle.log.specs.AcceptedLaws.{accepted-sound}
@@ -24,13 +26,13 @@ use Rattle.report.specs.SheetLaws.{few-rows}
 use Rattle.report.specs.Text.{entry-of, entry-line, entry-lines}
 use Rattle.report.specs.TextLaws.{entry-length, lines-longer, sheet-length}
 
-module _ (log : List ℕ) (a : Accepted log) where
+module _ (log : List ℕ) (a : Accepted built-in log) where
   -- its costs have at most 20 digits
-  least-small : (k : ℕ) → k ≤ request-count log → getD (least-costs log) k 0 < 2 ^ 64
+  least-small : (k : ℕ) → k ≤ request-count log → getD (least-costs built-in log) k 0 < 2 ^ 64
   unfolding least-costs
   least-small k h =
-      rw (build-at (suc (request-count log)) (λ k. plan-cost (prices-in log) (requests-in log) k) k 0 (omega arith), plan-best (prices-in log) (requests-in log) k)
-      (omega (arith, best-small (prices-in log) (requests-in log) (request-count log) (log-fits log a) k k (omega arith) h))
+      rw (build-at (suc (request-count log)) (λ k. plan-cost (prices-in built-in log) (requests-in log) k) k 0 (omega arith), plan-best (prices-in built-in log) (requests-in log) k)
+      (omega (arith, best-small (prices-in built-in log) (requests-in log) (request-count log) (log-fits built-in log a (λ e. classes-ranged)) k k (omega arith) h))
 
   running-small : (i : ℕ) → i < request-count log → getD (running-costs log) i 0 < 2 ^ 64
   unfolding running-costs live-cost
@@ -50,7 +52,7 @@ module _ (log : List ℕ) (a : Accepted log) where
   line-short : (i : ℕ) → i < request-count log → length (entry-line (entry i)) ≤ entry-room
   unfolding entry-of columns-of
   line-short i h =
-      let f = accepted-sound log a in
+      let f = accepted-sound built-in log a in
       let o = f .in-order i h in
       entry-length (entry i) (omega (arith, f .requests-most)) (omega (arith, o .second-most)) (omega (arith, o .server-below, f .setup .servers-most))
       (least-small (suc i) h) (running-small i h)
@@ -65,6 +67,6 @@ module _ (log : List ℕ) (a : Accepted log) where
   pub sheet-fits : length (sheet-of log) ≤ sheet-room
   unfolding sheet-of
   sheet-fits =
-      let few = accepted-sound log a .requests-most in
-      sheet-length entry (request-count log) (length (planned-rows log)) (closing-cost log) few (omega (arith, few-rows log a, few)) closing-small
+      let few = accepted-sound built-in log a .requests-most in
+      sheet-length entry (request-count log) (length (planned-rows built-in log)) (closing-cost log) few (omega (arith, few-rows log a, few)) closing-small
       (lines-short (request-count log) (omega arith))

@@ -4,6 +4,7 @@ ghost use Prim.Native.Nat.{_≤_};
 ghost use lib.ListN.{length, take};
 ghost use Rattle.base.specs.Lent.{lent};
 ghost use Rattle.base.specs.declared.Verdict.the-variants.{Passed};
+ghost use Rattle.prices.specs.Tariff.{built-in};
 ghost use Rattle.log.specs.Sizes.{most-requests};
 ghost use Rattle.log.specs.Fields.{header-of, request-count, seconds-of, servers-of};
 ghost use Rattle.log.specs.Conditions.{Accepted, verdict-of};
@@ -55,18 +56,18 @@ fn row_count(planned: Planned) -> u64
 // Read a log, into lists that have room for any.
 fn read_requests(log: &[u8], seconds: &mut [u32], servers: &mut [u16]) -> Decoded
     requires { ⌜ (length (now seconds) ≡ most-requests) × (length (now servers) ≡ most-requests) ⌝ }
-    ensures { λ r. ⌜ r ≡ decoded (verdict-of (now (log .entry))) (now (log .entry)) ⌝ }
-    ensures { λ _. ⌜ now (seconds .exit) ≡ lent (verdict-of (now (log .entry))) (seconds-of (now (log .entry))) (now (seconds .entry)) ⌝ }
-    ensures { λ _. ⌜ now (servers .exit) ≡ lent (verdict-of (now (log .entry))) (servers-of (now (log .entry))) (now (servers .entry)) ⌝ }
+    ensures { λ r. ⌜ r ≡ decoded (verdict-of built-in (now (log .entry))) (now (log .entry)) ⌝ }
+    ensures { λ _. ⌜ now (seconds .exit) ≡ lent (verdict-of built-in (now (log .entry))) (seconds-of (now (log .entry))) (now (seconds .entry)) ⌝ }
+    ensures { λ _. ⌜ now (servers .exit) ≡ lent (verdict-of built-in (now (log .entry))) (servers-of (now (log .entry))) (now (servers .entry)) ⌝ }
 {
     read(log, seconds, servers)
 }
 
 // The marks of an accepted log's plan, and the number of the plan's rows.
 fn plan_marks(log: &[u8], marks: &mut [u8]) -> u64
-    requires { ⌜ Accepted (now log) × (length (now marks) ≡ most-requests) ⌝ }
-    ensures { λ r. ⌜ r ≡ length (planned-rows (now (log .entry))) ⌝ }
-    ensures { λ _. ⌜ now (marks .exit) ≡ lent Passed (marks-of (now (log .entry))) (now (marks .entry)) ⌝ }
+    requires { ⌜ Accepted built-in (now log) × (length (now marks) ≡ most-requests) ⌝ }
+    ensures { λ r. ⌜ r ≡ length (planned-rows built-in (now (log .entry))) ⌝ }
+    ensures { λ _. ⌜ now (marks .exit) ≡ lent Passed (marks-of built-in (now (log .entry))) (now (marks .entry)) ⌝ }
 {
     let mut rows = [0u32; ROWS_ROOM];
     let planned = plan(log, marks, &mut rows);
@@ -75,8 +76,8 @@ fn plan_marks(log: &[u8], marks: &mut [u8]) -> u64
 
 // The least costs of its first requests.
 fn find_least(log: &[u8], costs: &mut [u64])
-    requires { ⌜ Accepted (now log) × (length (now costs) ≡ places) ⌝ }
-    ensures { λ _. ⌜ now (costs .exit) ≡ lent Passed (least-costs (now (log .entry))) (now (costs .entry)) ⌝ }
+    requires { ⌜ Accepted built-in (now log) × (length (now costs) ≡ places) ⌝ }
+    ensures { λ _. ⌜ now (costs .exit) ≡ lent Passed (least-costs built-in (now (log .entry))) (now (costs .entry)) ⌝ }
 {
     least(log, costs);
 }
@@ -90,7 +91,7 @@ fn put_sheet(
     servers: &[u16],
     text: &mut [u8],
 ) -> usize
-    requires { ⌜ Accepted (now log) × (header ≡ header-of (now log)) × (n ≡ request-count (now log)) ⌝ }
+    requires { ⌜ Accepted built-in (now log) × (header ≡ header-of (now log)) × (n ≡ request-count (now log)) ⌝ }
     requires { ⌜ Alike (now seconds) (seconds-of (now log)) × Alike (now servers) (servers-of (now log)) ⌝ }
     requires { ⌜ (length (now seconds) ≡ most-requests) × (length (now servers) ≡ most-requests) × (sheet-room ≤ length (now text)) ⌝ }
     ensures { λ r. ⌜ (r ≤ length (now (text .exit))) × (take r (now (text .exit)) ≡ sheet-of (now (log .entry))) ⌝ }

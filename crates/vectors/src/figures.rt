@@ -3,6 +3,7 @@ use crate::brute::cheapest;
 use crate::brute::held;
 use crate::run::ABSENT;
 use crate::run::checked_rows;
+use crate::run::class_prices;
 use crate::run::least_given;
 use crate::run::planned;
 use crate::run::written;
@@ -12,7 +13,6 @@ use crate::small::previous;
 use crate::small::second;
 use base::widths::u64_from_u32;
 use prices::Prices;
-use prices::of_class;
 use std::num::wrapping_add_u64;
 use std::num::wrapping_sub_u64;
 
@@ -70,13 +70,13 @@ fn say_costs(costs: &[u64; 8]) {
 
 // D(i): the least cost of the first i requests with the last of them kept.
 fn say_kept(name: &[u8], i: usize, bit: u32) {
-    let best = cheapest(of_class(0), &SECONDS, &SERVERS, i, bit);
+    let best = cheapest(class_prices(0), &SECONDS, &SERVERS, i, bit);
     say::figure(name, best.cost);
     say::end_line();
 }
 
 fn say_candidates(costs: &[u64; 8]) {
-    let prices = of_class(0);
+    let prices = class_prices(0);
     say::text(b"D(7) from C(2) C(4) C(5) C(6)");
     say::number(candidate(prices, costs, 2));
     say::number(candidate(prices, costs, 4));

@@ -11,8 +11,17 @@ use planner::LeastCosts;
 use planner::Planned;
 use planner::least;
 use planner::plan;
+use prices::Prices;
+use prices::built_in;
+use prices::of_class;
 
 pub(crate) const ABSENT: u64 = 18446744073709551615;
+
+// The prices of a class of the built-in table.
+pub(crate) fn class_prices(class: u8) -> Prices {
+    let table = built_in();
+    of_class(&table, class)
+}
 
 // The length of the log that is written.
 pub(crate) fn written(

@@ -7,13 +7,13 @@ use crate::draw::draw;
 use crate::draw::drawn;
 use crate::run::ABSENT;
 use crate::run::checked_rows;
+use crate::run::class_prices;
 use crate::run::least_given;
 use crate::run::planned;
 use crate::run::written;
 use crate::say;
 use base::widths::size_from_u32;
 use prices::Prices;
-use prices::of_class;
 use prices::window;
 use std::num::wrapping_add_u64;
 
@@ -136,7 +136,7 @@ fn prefixes_agree(week: Week, log: &[u8], seconds: &[u32; 8], servers: &[u16; 8]
     let mut costs = [7u64; 9];
     least_given(log, &mut costs);
     same_prefixes(
-        of_class(week.class),
+        class_prices(week.class),
         seconds,
         servers,
         &costs,
@@ -150,7 +150,7 @@ fn plan_agrees(t: Tally, week: Week, log: &[u8], seconds: &[u32; 8], servers: &[
     let mut rows = [7u32; 64];
     let n = week.requests;
     let plan = planned(log, &mut letters, &mut rows);
-    let best = cheapest(of_class(week.class), seconds, servers, n, 0);
+    let best = cheapest(class_prices(week.class), seconds, servers, n, 0);
     let others = brute_rows(seconds, servers, n, best.marks);
     Tally {
         weeks: more(t.weeks, true),
@@ -201,7 +201,7 @@ fn one(t: Tally, week: Week, log: &[u8], seconds: &[u32; 8], servers: &[u16; 8])
 
 // Twice the window and a little more, so that both marks come up.
 fn apart(class: u8) -> u32 {
-    let w = window(of_class(class));
+    let w = window(class_prices(class));
     if 200000 < w {
         return 500000;
     }

@@ -1,79 +1,21 @@
 -- `checker::checking::check` meets its contract. Assumes nothing.
+use Rattle.prices.specs.FileLaws.{built-in-given, built-in-priced}
 use borrow.Author.Needs.{needs}
-use mathlib.Core.Path.{sym, _∙_}
-use Rattle.log.specs.Conditions.{Accepted}
-use Rattle.log.specs.Fields.{class-of}
-use Rattle.model.specs.LogRequests.{prices-in}
-use Rattle.checker.specs.Answers.{checked}
-use Rattle.checker.specs.AnswerLaws.{log-refused, log-accepted, sums-fit, prices-fit}
 use Rattle.checker.proofs.checking.check.Statement.{statement}
 use Rattle.checker.proofs.checking.check.Tie as tie
 
-verdict-requires : tie.Need-verdict-requires
-verdict-requires c κs = search needs
+built-in-requires : tie.Need-built-in-requires
+built-in-requires c κs = search needs
 
-enum-known-v : tie.Need-enum-known-v
-enum-known-v c = search needs
+slice-aggregate-check-by : tie.Need-slice-aggregate-check-by
+slice-aggregate-check-by c = search needs
+
+check-by-requires : tie.Need-check-by-requires
+check-by-requires c κs = built-in-priced _ (c .before .built-in .ensures)
 
 returns : tie.Need-returns
-returns c =
-    let a = c .before .before .before .before .before .before .args in
-    sym (log-refused (a .log .now) (a .rows .now) _ (sym (c .before .before .before .verdict .ensures) ∙ c .before .v .given .1))
-
-enum-told : tie.Need-enum-told
-enum-told c = search needs
-
-schedule-fault-requires : tie.Need-schedule-fault-requires
-unfolding Accepted
-schedule-fault-requires c κs = sym (c .before .before .verdict .ensures) ∙ c .enum-told .given .1
-
-enum-known-v-2 : tie.Need-enum-known-v-2
-enum-known-v-2 c = search needs
-
-returns-2 : tie.Need-returns-2
-unfolding checked
-returns-2 c =
-    let a = c .before .before .before .before .before .before .before .before .before .args in
-    sym (log-accepted (a .log .now) (a .rows .now) _ (sym (c .before .before .before .before .before .before .verdict .ensures) ∙ c .before .before .before .before .enum-told .given .1) (sym (c .before .before .before .schedule-fault .ensures) ∙ c .before .v2 .given .1))
-
-enum-told-2 : tie.Need-enum-told-2
-enum-told-2 c = search needs
-
-at-requires : tie.Need-at-requires
-at-requires c κs = search needs
-
-of-class-requires : tie.Need-of-class-requires
-of-class-requires c κs = search needs
-
-cost-requires : tie.Need-cost-requires
-unfolding class-of
-cost-requires c κs =
-    let a = c .before .before .before .before .before .before .before .before .before .before .args in
-    let passed = sym (c .before .before .before .before .before .before .before .verdict .ensures) ∙ c .before .before .before .before .before .enum-told .given .1 in
-    let p = prices-fit (a .log .now) passed in
-    let s = sums-fit (a .log .now) (a .rows .now) passed (sym (c .before .before .before .before .schedule-fault .ensures) ∙ c .before .before .enum-told2 .given .1) in
-    rw (c .of-class .ensures, c .before .at .ensures) (p .0, p .1, s .0, s .1)
-
-returns-3 : tie.Need-returns-3
-unfolding checked prices-in class-of
-returns-3 c =
-    let a = c .before .before .before .before .before .before .before .before .before .before .before .args in
-    rw (c .cost .ensures, c .before .of-class .ensures, c .before .before .at .ensures)
-    (sym (log-accepted (a .log .now) (a .rows .now) _ (sym (c .before .before .before .before .before .before .before .before .verdict .ensures) ∙ c .before .before .before .before .before .before .enum-told .given .1) (sym (c .before .before .before .before .before .schedule-fault .ensures) ∙ c .before .before .before .enum-told2 .given .1)))
+returns c = rw (built-in-given _ (c .before .before .built-in .ensures)) (c .check-by .ensures)
 
 pub check-spec : {M : Type 1} → statement M
 check-spec =
-    tie.close
-    (tie.spec
-    verdict-requires
-    enum-known-v
-    returns
-    enum-told
-    schedule-fault-requires
-    enum-known-v-2
-    returns-2
-    enum-told-2
-    at-requires
-    of-class-requires
-    cost-requires
-    returns-3)
+    tie.close (tie.spec built-in-requires slice-aggregate-check-by check-by-requires returns)

@@ -1,7 +1,7 @@
 -- `log::conditions::form_fault` meets its contract. Assumes nothing.
 use borrow.Author.Needs.{needs}
 use Rattle.base.specs.Refusals.{from}
-use Rattle.base.specs.RefusalLaws.{from-first, from-append}
+use Rattle.base.specs.RefusalLaws.{from-append}
 use Rattle.log.specs.Fields.{version, class-of, server-count, home-of, request-count}
 use Rattle.log.proofs.conditions.form_fault.Statement.{statement}
 use Rattle.log.proofs.conditions.form_fault.Tie as tie
@@ -54,8 +54,7 @@ or-else-requires-6 c κs = search needs
 returns : tie.Need-returns
 unfolding from version class-of server-count home-of request-count
 returns c =
-    rw (← (from-first _))
-    (simp (
+    simp (
       from-append,
       c .or-else6 .ensures,
       c .before .total-differs .ensures,
@@ -72,7 +71,7 @@ returns c =
       c .before .before .before .before .before .before .before .before .before .before .before .before .at162 .ensures,
       c .before .before .before .before .before .before .before .before .before .before .before .before .before .or-else .ensures,
       c .before .before .before .before .before .before .before .before .before .before .before .before .before .before .at16 .ensures,
-    ))
+    )
 
 pub form-fault-spec : {M : Type 1} → statement M
 form-fault-spec =

@@ -5,6 +5,12 @@ use Rattle.log.specs.Conditions.{setup-conditions}
 use Rattle.log.proofs.conditions.setup_fault.Statement.{statement}
 use Rattle.log.proofs.conditions.setup_fault.Tie as tie
 
+class-count-requires : tie.Need-class-count-requires
+class-count-requires c κs = search needs
+
+u16-from-u8-requires : tie.Need-u16-from-u8-requires
+u16-from-u8-requires c κs = search needs
+
 or-else-requires : tie.Need-or-else-requires
 or-else-requires c κs = search needs
 
@@ -25,12 +31,16 @@ returns c =
       c .before .before .or-else2 .ensures,
       c .before .before .before .count-outside .ensures,
       c .before .before .before .before .or-else .ensures,
+      c .before .before .before .before .before .u16-from-u8 .ensures .0,
+      c .before .before .before .before .before .before .class-count .ensures,
     )
 
 pub setup-fault-spec : {M : Type 1} → statement M
 setup-fault-spec =
     tie.close
     (tie.spec
+    class-count-requires
+    u16-from-u8-requires
     or-else-requires
     count-outside-requires
     or-else-requires-2

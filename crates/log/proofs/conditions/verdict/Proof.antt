@@ -29,7 +29,7 @@ returns-2 c = rw (verdict-parts, ← c .before .before .before .before .form-fau
 requests-fault-requires : tie.Need-requests-fault-requires
 requests-fault-requires c κs =
     let told = c .before .before in
-    form-length _ (sym (told .before .before .form-fault .ensures) ∙ told .enum-told .given .1)
+    form-length _ _ _ (sym (told .before .before .form-fault .ensures) ∙ told .enum-told .given .1)
 
 returns-3 : tie.Need-returns-3
 unfolding first

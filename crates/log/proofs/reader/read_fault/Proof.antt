@@ -1,9 +1,7 @@
 -- `log::reader::read_fault` meets its contract. Assumes nothing.
 use borrow.Author.Needs.{needs}
 use Rattle.base.specs.Refusals.{from}
-use Rattle.base.specs.RefusalLaws.{from-first, from-append}
-use Rattle.log.specs.Conditions.{verdict-of}
-use Rattle.log.specs.Answers.{read-verdict}
+use Rattle.log.specs.AnswerLaws.{read-parts}
 use Rattle.log.specs.Fields.{request-count}
 use Rattle.log.proofs.reader.read_fault.Statement.{statement}
 use Rattle.log.proofs.reader.read_fault.Tie as tie
@@ -33,9 +31,9 @@ or-else-requires-2 : tie.Need-or-else-requires-2
 or-else-requires-2 c κs = search needs
 
 returns : tie.Need-returns
-unfolding read-verdict request-count verdict-of from
+unfolding request-count from
 returns c =
-    rw (← (from-first _), from-append, from-first)
+    rw read-parts
     (simp (
       c .or-else2 .ensures,
       c .before .u64-from-u162 .ensures .0,

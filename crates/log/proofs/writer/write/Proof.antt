@@ -1,92 +1,25 @@
 -- `log::writer::write` meets its contract. Assumes nothing.
+use Rattle.prices.specs.FileLaws.{built-in-given}
 use borrow.Author.Needs.{needs}
-use mathlib.Core.Path.{_≡_, refl, sym, _∙_}
-use native.Mathlib.Omega.{arith}
-use lib.ListN.{length}
-use Rattle.log.specs.AnswerLaws.{write-room}
-use Rattle.base.specs.Lent.{lent}
-use Rattle.log.specs.Fields.{length-for}
-use Rattle.log.specs.Contents.{head, body, requests-bytes, encode}
-use Rattle.log.specs.Answers.{written}
-use Rattle.log.specs.EncodeLaws.{requests-length}
-use Rattle.log.specs.WriteLaws.{all-written}
 use Rattle.log.proofs.writer.write.Statement.{statement}
 use Rattle.log.proofs.writer.write.Tie as tie
 
-write-fault-requires : tie.Need-write-fault-requires
-write-fault-requires c κs = search needs
+built-in-requires : tie.Need-built-in-requires
+built-in-requires c κs = search needs
 
-enum-known-v : tie.Need-enum-known-v
-enum-known-v c = search needs
+slice-aggregate-write-by : tie.Need-slice-aggregate-write-by
+slice-aggregate-write-by c = search needs
 
-returns : tie.Need-returns
-unfolding written lent
-returns c = rw (← c .before .before .before .write-fault .ensures, c .before .v .given .1) (refl, refl)
-
-enum-told : tie.Need-enum-told
-enum-told c = search needs
-
-mul-total : tie.Need-mul-total
-mul-total c = search needs
-
-add-total : tie.Need-add-total
-add-total c = search needs
-
-put-head-requires : tie.Need-put-head-requires
-put-head-requires c κs =
-    let ok = write-room _ _ (sym (c .before .before .before .write-fault .ensures) ∙ c .before .enum-told .given .1) in
-    (ok .1, omega arith)
-
-put-requests-requires : tie.Need-put-requests-requires
-put-requests-requires c κs =
-    let ok = write-room _ _ (sym (c .before .before .before .before .before .before .before .write-fault .ensures) ∙ c .before .before .before .before .before .enum-told .given .1) in
-    (ok .0, ok .1, omega (arith, c .before .before .before .put-head .kept .1 .1 .0))
-
-clear8-requires : tie.Need-clear8-requires
-clear8-requires c κs = search needs
-
-put-sum-requires : tie.Need-put-sum-requires
-put-sum-requires c κs =
-    let ok = write-room _ _ (sym (c .before .before .before .before .before .before .before .before .before .before .before .before .before .before .before .write-fault .ensures) ∙ c .before .before .before .before .before .before .before .before .before .before .before .before .before .enum-told .given .1) in
-    omega (arith, c .before .before .before .clear8 .kept .0, c .before .before .before .before .before .before .before .put-requests .kept .1 .1 .0, c .before .before .before .before .before .before .before .before .before .before .before .put-head .kept .1 .1 .0)
-
-u64-from-size-requires : tie.Need-u64-from-size-requires
-u64-from-size-requires c κs = search needs
+write-by-requires : tie.Need-write-by-requires
+write-by-requires c κs = search needs
 
 same-length : tie.Need-same-length
 same-length c = search needs
 
-returns-2 : tie.Need-returns-2
-unfolding written encode body head length-for
-returns-2 c =
-    let wf = c .before .before .before .before .before .before .before .before .before .before .before .before .before .before .before .before .before .before .before .write-fault .ensures in
-    let told = c .before .before .before .before .before .before .before .before .before .before .before .before .before .before .before .before .before .enum-told .given .1 in
-    let a = c .before .before .before .before .before .before .before .before .before .before .before .before .before .before .before .before .before .before .before .before .before .before .before .args in
-    let n = length (a .seconds .now) in
-    let id-length : length (a .header .id) ≡ 16 = let g = c .before .before .before .before .before .before .before .before .before .before .before .before .before .before .before .before .before .before .before .before .before .before .before .good in search needs in
-    let ok = write-room _ _ (sym wf ∙ told) in
-    rw (← wf, told, c .u64-from-size .ensures .0) (
-      refl,
-      c .before .before .before .put-sum .ensures
-          ∙ all-written (head (a .header) n) (a .header .id) (requests-bytes (a .seconds .now) (a .servers .now) n) (a .log .now) n
-          refl id-length (requests-length (a .seconds .now) (a .servers .now) n) (ok .2)
-          _ _ _ (c .before .before .before .before .before .before .before .before .before .before .before .before .before .before .before .put-head .ensures) (c .before .before .before .before .before .before .before .before .before .before .before .put-requests .ensures) (c .before .before .before .before .before .before .before .clear8 .ensures),
-    )
+returns : tie.Need-returns
+returns c = rw (built-in-given _ (c .before .before .before .before .before .built-in .ensures)) (c .before .before .write-by .ensures)
 
 pub write-spec : {M : Type 1} → statement M
 write-spec =
     tie.close
-    (tie.spec
-    write-fault-requires
-    enum-known-v
-    returns
-    enum-told
-    mul-total
-    add-total
-    put-head-requires
-    put-requests-requires
-    clear8-requires
-    put-sum-requires
-    u64-from-size-requires
-    same-length
-    returns-2)
+    (tie.spec built-in-requires slice-aggregate-write-by write-by-requires same-length returns)

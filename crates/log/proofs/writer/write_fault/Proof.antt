@@ -2,9 +2,8 @@
 use borrow.Author.Needs.{needs}
 use mathlib.Core.Path.{_∙_}
 use Rattle.base.specs.Refusals.{or-else}
-use Rattle.base.specs.RefusalLaws.{first-append}
 use Rattle.log.specs.Fields.{length-for}
-use Rattle.log.specs.Answers.{write-verdict}
+use Rattle.log.specs.AnswerLaws.{write-parts}
 use Rattle.log.proofs.writer.write_fault.Statement.{statement}
 use Rattle.log.proofs.writer.write_fault.Tie as tie
 
@@ -15,8 +14,7 @@ enum-known-v : tie.Need-enum-known-v
 enum-known-v c = search needs
 
 returns : tie.Need-returns
-unfolding write-verdict
-returns c = rw (first-append, ← c .before .before .before .contents-fault .ensures, c .before .v .given .1)
+returns c = rw (write-parts, ← c .before .before .before .contents-fault .ensures, c .before .v .given .1)
 
 enum-told : tie.Need-enum-told
 enum-told c = search needs
@@ -34,9 +32,9 @@ or-else-requires : tie.Need-or-else-requires
 or-else-requires c κs = search needs
 
 returns-2 : tie.Need-returns-2
-unfolding write-verdict or-else length-for
+unfolding or-else length-for
 returns-2 c =
-    rw (first-append, ← c .before .before .before .before .contents-fault .ensures, c .before .before .enum-told .given .1)
+    rw (write-parts, ← c .before .before .before .before .contents-fault .ensures, c .before .before .enum-told .given .1)
     (c .or-else .ensures ∙ rw (c .before .u64-from-size .ensures .0))
 
 pub write-fault-spec : {M : Type 1} → statement M

@@ -4,13 +4,13 @@ use mathlib.Core.Path.{ap, ap₂, _∙_}
 use native.Mathlib.Omega.{arith}
 use Prim.Native.Nat.{ℕ, _*_}
 use Rattle.prices.specs.declared.Prices.{Prices}
-use Rattle.online.specs.Rules.{class-prices, closing}
+use Rattle.online.specs.Rules.{closing}
 use Rattle.online.specs.ClosingLaws.{closing-fits}
 use Rattle.online.proofs.close.closing_cost.Statement.{statement}
 use Rattle.online.proofs.close.closing_cost.Tie as tie
 
-of-class-requires : tie.Need-of-class-requires
-of-class-requires c κs = search needs
+class-prices-requires : tie.Need-class-prices-requires
+class-prices-requires c κs = search needs
 
 outline-of-requires : tie.Need-outline-of-requires
 outline-of-requires c κs = search needs
@@ -25,26 +25,26 @@ u64-from-u32-requires : tie.Need-u64-from-u32-requires
 u64-from-u32-requires c κs = search needs
 
 mul-result : tie.Need-mul-result
-unfolding closing class-prices
+unfolding closing
 mul-result c =
     let k = c .before .before .before .before in
-    let hold = c .u64-from-u32 .ensures .0 ∙ ap (λ (p : Prices). p .hold) (k .of-class .ensures) in
+    let hold = c .u64-from-u32 .ensures .0 ∙ ap (λ (p : Prices). p .hold) (k .class-prices .ensures) in
     let left = ap₂ (λ (x y : ℕ). x * y) hold (c .before .before .all-remaining .ensures) in
     record { fits = omega (arith, left, closing-fits (k .before .args .cache) (k .before .pre)) }
 
 add-result : tie.Need-add-result
-unfolding closing class-prices
+unfolding closing
 add-result c =
     let k = c .before .before .before .before in
-    let hold = c .u64-from-u32 .ensures .0 ∙ ap (λ (p : Prices). p .hold) (k .of-class .ensures) in
+    let hold = c .u64-from-u32 .ensures .0 ∙ ap (λ (p : Prices). p .hold) (k .class-prices .ensures) in
     let left = ap₂ (λ (x y : ℕ). x * y) hold (c .before .before .all-remaining .ensures) in
     record { fits = omega (arith, left, c .before .running-cost .ensures, closing-fits (k .before .args .cache) (k .before .pre)) }
 
 returns : tie.Need-returns
-unfolding closing class-prices
+unfolding closing
 returns c =
     let k = c .before .before .before .before in
-    let hold = c .u64-from-u32 .ensures .0 ∙ ap (λ (p : Prices). p .hold) (k .of-class .ensures) in
+    let hold = c .u64-from-u32 .ensures .0 ∙ ap (λ (p : Prices). p .hold) (k .class-prices .ensures) in
     let left = ap₂ (λ (x y : ℕ). x * y) hold (c .before .before .all-remaining .ensures) in
     omega (arith, left, c .before .running-cost .ensures)
 
@@ -52,7 +52,7 @@ pub closing-cost-spec : {M : Type 1} → statement M
 closing-cost-spec =
     tie.close
     (tie.spec
-    of-class-requires
+    class-prices-requires
     outline-of-requires
     all-remaining-requires
     running-cost-requires

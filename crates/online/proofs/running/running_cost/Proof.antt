@@ -1,12 +1,12 @@
 -- `online::running::running_cost` meets its contract. Assumes nothing.
 use borrow.Author.Needs.{needs}
-use Rattle.online.specs.Rules.{class-prices, running}
+use Rattle.online.specs.Rules.{running}
 use Rattle.online.specs.Widths.{running-fits}
 use Rattle.online.proofs.running.running_cost.Statement.{statement}
 use Rattle.online.proofs.running.running_cost.Tie as tie
 
-of-class-requires : tie.Need-of-class-requires
-of-class-requires c κs = search needs
+class-prices-requires : tie.Need-class-prices-requires
+class-prices-requires c κs = search needs
 
 times-requires : tie.Need-times-requires
 times-requires c κs = search needs
@@ -15,16 +15,16 @@ times-requires-2 : tie.Need-times-requires-2
 times-requires-2 c κs = search needs
 
 add-result : tie.Need-add-result
-unfolding running class-prices
+unfolding running
 add-result c =
     let cache = c .before .before .before .args .cache in
     let f = running-fits cache (search needs) (search needs) in
-    record { fits = rw (c .times2 .ensures, c .before .times .ensures, c .before .before .of-class .ensures) f }
+    record { fits = rw (c .times2 .ensures, c .before .times .ensures, c .before .before .class-prices .ensures) f }
 
 returns : tie.Need-returns
-unfolding running class-prices
-returns c = rw (c .times2 .ensures, c .before .times .ensures, c .before .before .of-class .ensures)
+unfolding running
+returns c = rw (c .times2 .ensures, c .before .times .ensures, c .before .before .class-prices .ensures)
 
 pub running-cost-spec : {M : Type 1} → statement M
 running-cost-spec =
-    tie.close (tie.spec of-class-requires times-requires times-requires-2 add-result returns)
+    tie.close (tie.spec class-prices-requires times-requires times-requires-2 add-result returns)

@@ -1,59 +1,25 @@
 -- `planner::costs::least` meets its contract. Assumes nothing.
-use Rattle.planner.specs.SummaryLaws.{loaded-log, loaded-refused, setup-requests, summary-ready}
-use Rattle.planner.specs.LeastAnswer.{costs-answer}
-use Rattle.planner.specs.LeastAnswerLaws.{least-refused, least-accepted}
-use Rattle.log.specs.Conditions.{verdict-of, Accepted}
-use mathlib.Core.Path.{refl}
+use Rattle.prices.specs.FileLaws.{built-in-given, built-in-priced}
 use borrow.Author.Needs.{needs}
 use Rattle.planner.proofs.costs.least.Statement.{statement}
 use Rattle.planner.proofs.costs.least.Tie as tie
 
-load-requires : tie.Need-load-requires
-load-requires c κs = search needs
+built-in-requires : tie.Need-built-in-requires
+built-in-requires c κs = search needs
 
-enum-known-loaded : tie.Need-enum-known-loaded
-enum-known-loaded c = search needs
+slice-aggregate-least-by : tie.Need-slice-aggregate-least-by
+slice-aggregate-least-by c = search needs
 
-enum-known-loaded-2 : tie.Need-enum-known-loaded-2
-enum-known-loaded-2 c = search needs
-
-costs-of-requires : tie.Need-costs-of-requires
-unfolding Accepted
-costs-of-requires c κs =
-    let r = c .before .before .before .before .before .before .before in
-    let log = r .before .before .before .before .before .before .args .log .now in
-    let d = loaded-log (verdict-of log) log (r .load .result) _ (r .load .ensures .0) (c .before .before .before .before .before .loaded2 .given .1) in
-    summary-ready log (d .0) _ _ _ _ (r .load .ensures .1 .0) (r .load .ensures .1 .1 .0) _ _ _ (r .load .ensures .1 .1 .1) (d .1)
-
-returns : tie.Need-returns
-unfolding costs-answer
-returns c =
-    let r = c .before .before .before in
-    let a = r .before .before .before .before .before .before .args in
-    let log = a .log .now in
-    least-refused log (a .costs .now) _ _ (loaded-refused (verdict-of log) log (r .load .result) _ (r .load .ensures .0) (c .before .loaded .given .1)) refl
+least-by-requires : tie.Need-least-by-requires
+least-by-requires c κs = built-in-priced _ (c .before .before .built-in .ensures)
 
 same-length : tie.Need-same-length
 same-length c = search needs
 
-returns-2 : tie.Need-returns-2
-unfolding Accepted
-returns-2 c =
-    let x = c .before .before .costs-of in
-    let r = c .before .before .before .before .before .before .before .before .before .before in
-    let a = r .before .before .before .before .before .before .args in
-    let log = a .log .now in
-    let d = loaded-log (verdict-of log) log (r .load .result) _ (r .load .ensures .0) (c .before .before .before .before .before .before .before .before .loaded2 .given .1) in
-    least-accepted log (a .costs .now) (d .0) _ (d .1) _ (setup-requests log (d .0) _ _ _ _ (r .load .ensures .1 .0) (r .load .ensures .1 .1 .0)) _ _ (x .ensures .0) (x .ensures .1)
+returns : tie.Need-returns
+returns c = rw (built-in-given _ (c .before .before .before .before .before .built-in .ensures)) (c .before .before .least-by .ensures)
 
 pub least-spec : {M : Type 1} → statement M
 least-spec =
     tie.close
-    (tie.spec
-    load-requires
-    enum-known-loaded
-    enum-known-loaded-2
-    costs-of-requires
-    returns
-    same-length
-    returns-2)
+    (tie.spec built-in-requires slice-aggregate-least-by least-by-requires same-length returns)

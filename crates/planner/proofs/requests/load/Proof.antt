@@ -4,14 +4,17 @@ use mathlib.Core.Path.{_≡_, refl, ap, _∙_}
 use native.Mathlib.Omega.{arith}
 use lib.ListN.{length}
 use Rattle.base.specs.Lent.{lent}
+use Rattle.prices.specs.PriceFile.{table-in}
+use Rattle.prices.specs.Tariff.{tariff}
 use Rattle.log.specs.Fields.{home-of, seconds-of, servers-of, header-of}
 use Rattle.log.specs.Conditions.{verdict-of, Accepted}
+use Rattle.log.specs.AcceptedLaws.{accepted-sound}
 use Rattle.log.specs.AnswerLaws.{decoded-requests, decoded-refused}
 use Rattle.log.specs.declared.Header.{Header}
 use Rattle.model.specs.LogRequests.{prices-in}
 use Rattle.planner.specs.Sizes.{places}
 use Rattle.planner.specs.Loading.{seconds-with-home, servers-with-home, summary-of, loaded}
-use Rattle.planner.specs.LoadedLaws.{home-loaded, home-kept, lent-small, links-loaded, log-fits}
+use Rattle.planner.specs.LoadedLaws.{home-loaded, home-kept, lent-small, links-loaded}
 use Rattle.planner.proofs.requests.load.Statement.{statement}
 use Rattle.planner.proofs.requests.load.Tie as tie
 
@@ -37,13 +40,14 @@ link-requires : tie.Need-link-requires
 unfolding header-of servers-with-home Accepted
 link-requires c κs =
     let r = c .before .before .before .before .before .before .before in
-    let a = r .before .before .before .before .args in
+    let a = r .before .before .before .before .before .args in
     let log = a .log .now in
+    let t = tariff (a .v) (table-in (a .prices .now)) in
     let known = c .before .before .before .before .outcome2 .given in
-    let d = decoded-requests (verdict-of log) log (r .read-requests .result) _ (r .read-requests .ensures .0) (known .1) in
+    let d = decoded-requests (verdict-of t log) log (r .read-requests .result) _ (r .read-requests .ensures .0) (known .1) in
     let long : length (a .servers .now) ≡ places = search needs in
-    let now = home-loaded (verdict-of log) (a .servers .now) (servers-of log) _ (home-of log) _ (d .0) (r .read-requests .ensures .1 .1) (c .before .before .u16-from-u8 .ensures .0 ∙ ap (λ (h : Header). h .home) (d .2)) (omega arith) in
-    (omega (arith, d .1, log-fits log (d .0) .requests-most), lent-small log (d .0) (a .servers .now) _ now, search needs)
+    let now = home-loaded (verdict-of t log) (a .servers .now) (servers-of log) _ (home-of log) _ (d .0) (r .read-requests .ensures .1 .1) (c .before .before .u16-from-u8 .ensures .0 ∙ ap (λ (h : Header). h .home) (d .2)) (omega arith) in
+    (omega (arith, d .1, accepted-sound t log (d .0) .requests-most), lent-small t log (d .0) (a .servers .now) _ now, search needs)
 
 of-class-requires : tie.Need-of-class-requires
 of-class-requires c κs = search needs
@@ -52,13 +56,14 @@ returns : tie.Need-returns
 unfolding loaded lent
 returns c =
     let r = c .before .before .before .before in
-    let a = r .before .before .before .before .args in
+    let a = r .before .before .before .before .before .args in
     let log = a .log .now in
-    let e = decoded-refused (verdict-of log) log (r .read-requests .result) _ (r .read-requests .ensures .0) (c .before .outcome .given .1) in (
+    let t = tariff (a .v) (table-in (a .prices .now)) in
+    let e = decoded-refused (verdict-of t log) log (r .read-requests .result) _ (r .read-requests .ensures .0) (c .before .outcome .given .1) in (
       rw e,
       (
-        home-kept (verdict-of log) _ (a .seconds .now) (seconds-of log) _ _ e (r .read-requests .ensures .1 .0),
-        (home-kept (verdict-of log) _ (a .servers .now) (servers-of log) _ _ e (r .read-requests .ensures .1 .1), rw e),
+        home-kept (verdict-of t log) _ (a .seconds .now) (seconds-of log) _ _ e (r .read-requests .ensures .1 .0),
+        (home-kept (verdict-of t log) _ (a .servers .now) (servers-of log) _ _ e (r .read-requests .ensures .1 .1), rw e),
       ),
     )
 
@@ -66,17 +71,18 @@ returns-2 : tie.Need-returns-2
 unfolding header-of seconds-with-home servers-with-home loaded summary-of prices-in Accepted
 returns-2 c =
     let r = c .before .before .before .before .before .before .before .before .before in
-    let a = r .before .before .before .before .args in
+    let a = r .before .before .before .before .before .args in
     let log = a .log .now in
+    let t = tariff (a .v) (table-in (a .prices .now)) in
     let known = c .before .before .before .before .before .before .outcome2 .given in
-    let d = decoded-requests (verdict-of log) log (r .read-requests .result) _ (r .read-requests .ensures .0) (known .1) in
+    let d = decoded-requests (verdict-of t log) log (r .read-requests .result) _ (r .read-requests .ensures .0) (known .1) in
     let long : length (a .servers .now) ≡ places = search needs in
     let long₂ : length (a .seconds .now) ≡ places = search needs in
-    let now = home-loaded (verdict-of log) (a .servers .now) (servers-of log) _ (home-of log) _ (d .0) (r .read-requests .ensures .1 .1) (c .before .before .before .before .u16-from-u8 .ensures .0 ∙ ap (λ (h : Header). h .home) (d .2)) (omega arith) in (
+    let now = home-loaded (verdict-of t log) (a .servers .now) (servers-of log) _ (home-of log) _ (d .0) (r .read-requests .ensures .1 .1) (c .before .before .before .before .u16-from-u8 .ensures .0 ∙ ap (λ (h : Header). h .home) (d .2)) (omega arith) in (
       rw (d .0, d .1, c .of-class .ensures, d .2),
       (
-        home-loaded (verdict-of log) (a .seconds .now) (seconds-of log) _ 0 0 (d .0) (r .read-requests .ensures .1 .0) refl (omega arith),
-        (now, links-loaded log (d .0) (a .servers .now) (a .previous .now) _ _ _ now (d .1) (c .before .link .ensures)),
+        home-loaded (verdict-of t log) (a .seconds .now) (seconds-of log) _ 0 0 (d .0) (r .read-requests .ensures .1 .0) refl (omega arith),
+        (now, links-loaded t log (d .0) (a .servers .now) (a .previous .now) _ _ _ now (d .1) (c .before .link .ensures)),
       ),
     )
 

@@ -1,5 +1,6 @@
 -- `report::sheets::find_least` meets its contract. Assumes nothing.
 use borrow.Author.Needs.{needs}
+use Rattle.prices.specs.Tariff.{built-in}
 use Rattle.report.specs.SheetLaws.{least-passes}
 use Rattle.planner.specs.Answers.{least-verdict}
 use Rattle.base.specs.declared.Verdict.the-variants.{Passed}
@@ -18,8 +19,8 @@ returns : tie.Need-returns
 returns c =
     let s = c .before .before .before .before .before .before in
     let a = s .args in
-    let v : least-verdict (a .log .now) (length (a .costs .now)) ≡ Passed = rw (s .pre .1) (least-passes (a .log .now) (s .pre .0)) in
-    rw (← v) (c .before .before .least .ensures .1)
+    let v : least-verdict built-in (a .log .now) (length (a .costs .now)) ≡ Passed = rw (s .pre .1) (least-passes (a .log .now) (s .pre .0)) in
+    rw v at (c .before .before .least .ensures .1)
 
 pub find-least-spec : {M : Type 1} → statement M
 find-least-spec = tie.close (tie.spec least-requires same-length returns)

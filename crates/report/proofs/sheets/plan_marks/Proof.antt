@@ -1,5 +1,6 @@
 -- `report::sheets::plan_marks` meets its contract. Assumes nothing.
 use borrow.Author.Needs.{needs}
+use Rattle.prices.specs.Tariff.{built-in}
 use Rattle.report.specs.SheetLaws.{plan-passes}
 use Rattle.report.specs.Replies.{rows-planned}
 use Rattle.planner.specs.Sizes.{rows-room}
@@ -27,9 +28,9 @@ unfolding planned rows-planned
 returns c =
     let s = c .before .before .before .before .before .before .before .before .before in
     let a = s .args in
-    let v : plan-verdict (a .log .now) (length (a .marks .now)) rows-room ≡ Passed = rw (s .pre .1) (plan-passes (a .log .now) (s .pre .0)) in
+    let v : plan-verdict built-in (a .log .now) (length (a .marks .now)) rows-room ≡ Passed = rw (s .pre .1) (plan-passes (a .log .now) (s .pre .0)) in
     let p = c .before .before .before .before .plan .ensures in
-    (c .row-count .ensures ∙ rw (p .0, v) refl, rw (← v) (p .1 .0))
+    (c .row-count .ensures ∙ rw (p .0, v) refl, rw v at (p .1 .0))
 
 pub plan-marks-spec : {M : Type 1} → statement M
 plan-marks-spec =

@@ -2,6 +2,7 @@
 use borrow.Author.Needs.{needs}
 use mathlib.Core.Path.{_≡_, ap, _∙_}
 use native.Mathlib.Omega.{arith}
+use Rattle.prices.specs.Tariff.{built-in}
 use Rattle.log.specs.AcceptedLaws.{accepted-sound}
 use Rattle.log.specs.Fields.{header-of}
 use Rattle.log.specs.Contents.{setup-in}
@@ -40,7 +41,7 @@ give-live-requires c κs =
     let s = c .before .before .before .before .before .before .before .before .before .before .before .before .before in
     let log = s .args .log .now in
     let ((a, from, n), ((seconds, servers), _)) = s .pre in
-    let few = accepted-sound log a .requests-most in
+    let few = accepted-sound built-in log a .requests-most in
     let o : c .before .before .«open» .result ≡ opened log = c .before .before .«open» .ensures ∙ ap (λ (h : Header). started (setup-in h) .cache) from in (
       rw (n, o) (runs-read log a _ _ seconds servers),
       omega (arith, n, few),
@@ -69,7 +70,7 @@ put-lines-requires c κs =
     let s = c .before .before .before .before .before .before .before .before .before .before .before .before .before .before .before .before .before .before .before .before .before .before in
     let live = c .before .before .before .before .before .before .before .before .give-live .kept in
     let ((a, _, n), _) = s .pre in
-    let few = accepted-sound (s .args .log .now) a .requests-most in (
+    let few = accepted-sound built-in (s .args .log .now) a .requests-most in (
       omega (arith, n, few),
       search needs,
       search needs,

@@ -1,5 +1,6 @@
 -- `report::sheets::read_requests` meets its contract. Assumes nothing.
 use borrow.Author.Needs.{needs}
+use Rattle.prices.specs.Tariff.{built-in}
 use Rattle.log.specs.AnswerLaws.{read-long}
 use Rattle.report.proofs.sheets.read_requests.Statement.{statement}
 use Rattle.report.proofs.sheets.read_requests.Tie as tie
@@ -16,7 +17,7 @@ same-length-2 c = search needs
 returns : tie.Need-returns
 returns c =
     let s = c .before .before .before .before .before .before .before .before .before .before in
-    rw (← read-long (s .args .log .now) _ _ (s .pre .0) (s .pre .1)) (c .before .before .before .before .read .ensures)
+    rw (← read-long built-in (s .args .log .now) _ _ (s .pre .0) (s .pre .1)) (c .before .before .before .before .read .ensures)
 
 pub read-requests-spec : {M : Type 1} → statement M
 read-requests-spec = tie.close (tie.spec read-requires same-length same-length-2 returns)

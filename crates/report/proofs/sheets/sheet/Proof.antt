@@ -4,6 +4,7 @@ use mathlib.Core.Path.{refl, sym, _∙_}
 use lib.ListN.{length}
 use lib.Seq.{length-take-le}
 use Rattle.base.specs.Lent.{lent}
+use Rattle.prices.specs.Tariff.{built-in}
 use Rattle.log.specs.Conditions.{verdict-of, Accepted}
 use Rattle.log.specs.AnswerLaws.{decoded-requests, decoded-refused}
 use Rattle.text.specs.Answers.{printed}
@@ -47,7 +48,7 @@ unfolding Accepted
 put-sheet-requires c κs =
     let r = c .before .before .before .before .before .before .before .before .before .before .before in
     let log = r .before .before .before .before .before .args .log .now in
-    let d = decoded-requests (verdict-of log) log (r .read-requests .result) _ (r .read-requests .ensures .0) (c .before .before .before .before .before .before .outcome2 .given .1) in
+    let d = decoded-requests (verdict-of built-in log) log (r .read-requests .result) _ (r .read-requests .ensures .0) (c .before .before .before .before .before .before .outcome2 .given .1) in
     let seconds = rw (d .0) at (r .read-requests .ensures .1 .0) in
     let servers = rw (d .0) at (r .read-requests .ensures .1 .1) in
     ((d .0, d .2, c .before .before .before .size-from-u16 .ensures .0 ∙ d .1), ((lent-alike _ _ _ seconds, lent-alike _ _ _ servers), (search needs, search needs, search needs)))
@@ -66,7 +67,7 @@ unfolding printed lent
 returns c =
     let r = c .before .before .before .before .before .before in
     let a = r .before .before .before .before .before .args in
-    let e = decoded-refused (verdict-of (a .log .now)) (a .log .now) (r .read-requests .result) _ (r .read-requests .ensures .0) (c .before .outcome .given .1) in
+    let e = decoded-refused (verdict-of built-in (a .log .now)) (a .log .now) (r .read-requests .result) _ (r .read-requests .ensures .0) (c .before .outcome .given .1) in
     rw (sheet-refused (a .log .now) (length (a .text .now)) _ e) (refl, refl)
 
 same-length : tie.Need-same-length
@@ -77,7 +78,7 @@ unfolding Accepted
 returns-2 c =
     let r = c .before .before .before .before .before .before .before .before .before .before .before .before .before .before .before .before .before .before in
     let a = r .before .before .before .before .before .args in
-    let d = decoded-requests (verdict-of (a .log .now)) (a .log .now) (r .read-requests .result) _ (r .read-requests .ensures .0) (c .before .before .before .before .before .before .before .before .before .before .before .before .before .outcome2 .given .1) in
+    let d = decoded-requests (verdict-of built-in (a .log .now)) (a .log .now) (r .read-requests .result) _ (r .read-requests .ensures .0) (c .before .before .before .before .before .before .before .before .before .before .before .before .before .outcome2 .given .1) in
     rw (sheet-accepted (a .log .now) (length (a .text .now)) (d .0), ← c .before .before .before .before .before .before .put-sheet .ensures .1) (c .before .before .give .ensures)
 
 pub sheet-spec : {M : Type 1} → statement M

@@ -9,8 +9,8 @@ slice-aggregate-least-given c = search needs
 least-given-requires : tie.Need-least-given-requires
 least-given-requires c κs = search needs
 
-of-class-requires : tie.Need-of-class-requires
-of-class-requires c κs = search needs
+class-prices-requires : tie.Need-class-prices-requires
+class-prices-requires c κs = search needs
 
 same-prefixes-requires : tie.Need-same-prefixes-requires
 same-prefixes-requires c κs = search needs
@@ -24,6 +24,6 @@ prefixes-agree-spec =
     (tie.spec
     slice-aggregate-least-given
     least-given-requires
-    of-class-requires
+    class-prices-requires
     same-prefixes-requires
     returns)

@@ -1,0 +1,17 @@
+-- `checker::checking::check_with` meets its contract. Assumes nothing.
+use Rattle.prices.specs.FileLaws.{judged-priced}
+use borrow.Author.Needs.{needs}
+use Rattle.checker.proofs.checking.check_with.Statement.{statement}
+use Rattle.checker.proofs.checking.check_with.Tie as tie
+
+file-fault-requires : tie.Need-file-fault-requires
+file-fault-requires c κs = search needs
+
+check-by-requires : tie.Need-check-by-requires
+check-by-requires c κs = judged-priced _ _ (c .file-fault .ensures)
+
+returns : tie.Need-returns
+returns c = rw (← c .before .file-fault .ensures) (c .check-by .ensures)
+
+pub check-with-spec : {M : Type 1} → statement M
+check-with-spec = tie.close (tie.spec file-fault-requires check-by-requires returns)

@@ -1,0 +1,83 @@
+-- `prices::file::pairs_fault` meets its contract. Assumes nothing.
+use mathlib.Core.Path.{_≡_, refl, sym, ap, _∙_}
+use native.Mathlib.Omega.{arith}
+use native.Mathlib.Numerals.{add-one}
+use Prim.Native.Nat.{_≤_, _-_}
+use Rattle.base.specs.Refusals.{first, each}
+use Rattle.base.specs.declared.Verdict.the-variants.{Passed}
+use Rattle.prices.specs.Prices.{outside}
+use Rattle.prices.specs.PriceFile.{class-count, pair-condition}
+use Rattle.prices.specs.FileLaws.{pair-refused, pair-passed}
+use borrow.Author.Needs.{needs}
+use Rattle.prices.proofs.file.pairs_fault.Statement.{statement}
+use Rattle.prices.proofs.file.pairs_fault.Tie as tie
+
+abbrev Inv-loop : tie.InvT-loop
+Inv-loop file n class₀ class = (class ≤ n) × (n ≡ class-count file) × (first (each (pair-condition file) class) ≡ Passed)
+
+abbrev μ-loop : tie.MeasureT-loop
+μ-loop file n class₀ class = n - class
+
+at16-requires : tie.Need-at16-requires Inv-loop μ-loop
+at16-requires c κs = search needs
+
+loop-holds : tie.Need-loop-holds Inv-loop μ-loop
+unfolding first each class-count
+loop-holds c = (search needs, c .at16 .ensures, refl)
+
+pair-at-requires : tie.Need-pair-at-requires Inv-loop μ-loop
+pair-at-requires c κs =
+    let l = c .before .loop in
+    omega (arith, l .inv .1, c .before .before .before .before .pre)
+
+outside-requires : tie.Need-outside-requires Inv-loop μ-loop
+outside-requires c κs = search needs
+
+u64-from-u16-requires : tie.Need-u64-from-u16-requires Inv-loop μ-loop
+u64-from-u16-requires c κs = search needs
+
+returns : tie.Need-returns Inv-loop μ-loop
+returns c =
+    let l = c .before .before .before .before .before .loop in
+    let a = c .before .before .before .before .before .before .before .before .args in
+    pair-refused (a .file .now) (l .class) _ (omega (arith, l .inv .1)) (l .inv .2)
+    (sym (c .before .before .outside .ensures ∙ ap outside (c .before .before .before .pair-at .ensures)) ∙ c .before .if1 .taken) (c .u64-from-u16 .ensures .0)
+
+add-class : tie.Need-add-class Inv-loop μ-loop
+add-class c = search needs
+
+loop-less : tie.Need-loop-less Inv-loop μ-loop
+loop-less c = search needs
+
+loop-again : tie.Need-loop-again Inv-loop μ-loop
+loop-again c =
+    let l = c .before .before .before .before .loop in
+    let a = c .before .before .before .before .before .before .before .args in (
+      search needs,
+      l .inv .1,
+      rw (add-one (l .class)) (pair-passed (a .file .now) (l .class) (l .inv .2)
+          (sym (c .before .outside .ensures ∙ ap outside (c .before .before .pair-at .ensures)) ∙ c .if1 .left)),
+    )
+
+returns-2 : tie.Need-returns-2 Inv-loop μ-loop
+returns-2 c =
+    let l = c .before .loop in
+    let e : l .class ≡ class-count (c .before .before .before .before .args .file .now) = omega (arith, l .inv .1) in
+    sym (rw e at (l .inv .2))
+
+pub pairs-fault-spec : {M : Type 1} → statement M
+pairs-fault-spec =
+    tie.close
+    (tie.spec
+    Inv-loop
+    μ-loop
+    at16-requires
+    loop-holds
+    pair-at-requires
+    outside-requires
+    u64-from-u16-requires
+    returns
+    add-class
+    loop-less
+    loop-again
+    returns-2)

@@ -1,0 +1,183 @@
+// Price files (02's Req 05): the count of classes, the offset of the prices, then hold and transfer price of each class. The built-in table is one.
+ghost use mathlib.Core.Path.{_≡_};
+ghost use Prim.Native.Nat.{_+_, _*_, _<_, _≤_};
+ghost use lib.ListN.{length};
+ghost use Rattle.base.specs.Refusals.{first, each};
+ghost use Rattle.prices.specs.Prices.{prices-of};
+ghost use Rattle.prices.specs.PriceFile.{class-count, pair-at, table-in, form-condition, pair-condition, file-conditions};
+ghost use Rattle.prices.specs.FileLaws.{built-in-bytes};
+use crate::Prices;
+use crate::outside;
+use base::Refusal;
+use base::Verdict;
+use base::bytes::at16;
+use base::bytes::at32;
+use base::widths::size_from_u16;
+use base::widths::u16_from_u8;
+use base::widths::u64_from_u16;
+
+// The built-in table as a price file.
+const BUILT_IN: [u8; 68] = [
+    8,
+    0,
+    4,
+    0,
+    1,
+    0,
+    0,
+    0,
+    10,
+    0,
+    0,
+    0,
+    1,
+    0,
+    0,
+    0,
+    25,
+    0,
+    0,
+    0,
+    2,
+    0,
+    0,
+    0,
+    25,
+    0,
+    0,
+    0,
+    3,
+    0,
+    0,
+    0,
+    30,
+    0,
+    0,
+    0,
+    3,
+    0,
+    0,
+    0,
+    100,
+    0,
+    0,
+    0,
+    5,
+    0,
+    0,
+    0,
+    88,
+    2,
+    0,
+    0,
+    7,
+    0,
+    0,
+    0,
+    5,
+    0,
+    0,
+    0,
+    1,
+    0,
+    0,
+    0,
+    64,
+    66,
+    15,
+    0,
+];
+
+pub fn built_in() -> [u8; 68]
+    ensures { λ r. ⌜ r ≡ built-in-bytes ⌝ }
+{
+    BUILT_IN
+}
+
+// The number of classes.
+pub fn class_count(file: &[u8]) -> u16
+    ensures { λ r. ⌜ r ≡ length (table-in (now (file .entry))) ⌝ }
+{
+    at16(file, 0)
+}
+
+// The prices of a class that the file has.
+fn pair_at(file: &[u8], class: u16) -> Prices
+    requires { ⌜ 12 + 8 * class ≤ length (now file) ⌝ }
+    ensures { λ r. ⌜ r ≡ pair-at (now (file .entry)) class ⌝ }
+{
+    let i = 4 + 8 * size_from_u16(class);
+    Prices {
+        hold: at32(&file[i..i + 4], 0),
+        transfer: at32(&file[i + 4..i + 8], 0),
+    }
+}
+
+// Count, offset or length are not as the format says.
+fn misformed(file: &[u8]) -> bool
+    ensures { λ r. ⌜ r ≡ form-condition (now (file .entry)) .holds ⌝ }
+{
+    let n = at16(file, 0);
+    if file.len() < 4 {
+        return true;
+    }
+    if n == 0 {
+        return true;
+    }
+    if 256 < n {
+        return true;
+    }
+    if at16(file, 2) != 4 {
+        return true;
+    }
+    file.len() != 4 + 8 * size_from_u16(n)
+}
+
+// 38 for each class.
+fn pairs_fault(file: &[u8]) -> Verdict
+    requires { ⌜ length (now file) ≡ 4 + 8 * class-count (now file) ⌝ }
+    ensures { λ r. ⌜ r ≡ first (each (pair-condition (now (file .entry))) (class-count (now (file .entry)))) ⌝ }
+{
+    let n = at16(file, 0);
+    let mut class: u16 = 0;
+    while class < n {
+        if outside(pair_at(file, class)) {
+            return Verdict::Refused(Refusal {
+                number: 38,
+                place: u64_from_u16(class),
+            });
+        }
+        class += 1;
+    }
+    Verdict::Passed
+}
+
+// What a price file is answered: 37, 38.
+pub fn file_fault(file: &[u8]) -> Verdict
+    ensures { λ r. ⌜ r ≡ first (file-conditions (now (file .entry))) ⌝ }
+{
+    if misformed(file) {
+        return Verdict::Refused(Refusal {
+            number: 37,
+            place: 0,
+        });
+    }
+    pairs_fault(file)
+}
+
+// The prices of a class; zeros for a number that is no class.
+pub fn of_class(file: &[u8], class: u8) -> Prices
+    ensures { λ r. ⌜ r ≡ prices-of (table-in (now (file .entry))) class ⌝ }
+{
+    if class_count(file) <= u16_from_u8(class) {
+        return Prices {
+            hold: 0,
+            transfer: 0,
+        };
+    }
+    let i = 4 + 8 * (class as usize);
+    Prices {
+        hold: at32(file, i),
+        transfer: at32(file, i + 4),
+    }
+}
