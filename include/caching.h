@@ -1,11 +1,15 @@
 /* The calls of target/staticlib/libexports.a (rt staticlib exports), for C and C++. Their promises are in crates/exports.
  * Server is station, request is scan, transfer is send, cost is bill in the printed page's words.
  *
+ * A call whose name ends in _with takes the bytes of a price file, first of its arguments, and judges them each time: 37 and 38 come before all other
+ * refusals. A caller without a price file uses the other names, for which the built-in table of eight classes holds.
+ *
  * What the caller has to see to; of what is handed in nothing else is asked:
  * - each pointer has as many elements behind it as the length after it says; with length 0 it may be null;
  * - an output that is lent overlaps nothing else that the call is given: where it does, a wrong answer can come back as accepted;
  * - `closed` is 0 or 1: any other byte is not a bool;
- * - the stack has room: caching_plan takes 101 KB of it, caching_least 50 KB, any other call less than 3 KB (measured on x86-64).
+ * - the stack has room: caching_plan takes 101 KB of it, caching_least 50 KB, with a price file or without; any other call takes less than 3 KB
+ *   (measured on x86-64).
  *
  * A refused call gives the refusal's number and place, and values 0. What it was lent is left as it was; a read gives a header of zeros, a scan
  * and a close give the state back as it was handed in, a start gives a state of zeros. An accepted call gives number 0, place 0 and its values; what
@@ -41,9 +45,16 @@ struct caching_read_answer {
     struct caching_answer answer;
 };
 
-/* the online cache: every field may be read, and a state that no call gave back is refused (32) or served as it stands */
+/* the hold price of a copy and second, and the transfer price */
+struct caching_prices {
+    uint32_t hold;
+    uint32_t transfer;
+};
+
+/* the online cache: every field may be read, and a state that no call gave back is refused (32) or served as it stands; its prices need not be of
+ * any table */
 struct caching_cache {
-    uint8_t file_class;
+    struct caching_prices prices;
     uint8_t server_count;
     uint16_t last;
     uint32_t second;
@@ -74,12 +85,22 @@ uint32_t caching_sum(const uint8_t *log, size_t log_length);
 struct caching_read_answer caching_read(const uint8_t *log, size_t log_length, uint32_t *seconds, size_t seconds_length,
                                         uint16_t *servers, size_t servers_length);
 
+struct caching_read_answer caching_read_with(const uint8_t *prices, size_t prices_length, const uint8_t *log, size_t log_length,
+                                             uint32_t *seconds, size_t seconds_length, uint16_t *servers, size_t servers_length);
+
 /* value: the number of bytes written */
 struct caching_answer caching_write(struct caching_header header, const uint32_t *seconds, size_t seconds_length,
                                     const uint16_t *servers, size_t servers_length, uint8_t *log, size_t log_length);
 
+struct caching_answer caching_write_with(const uint8_t *prices, size_t prices_length, struct caching_header header, const uint32_t *seconds,
+                                         size_t seconds_length, const uint16_t *servers, size_t servers_length, uint8_t *log,
+                                         size_t log_length);
+
 /* rows_length counts numbers, four for each row; value: the cost of the rows */
 struct caching_answer caching_check(const uint8_t *log, size_t log_length, const uint32_t *rows, size_t rows_length);
+
+struct caching_answer caching_check_with(const uint8_t *prices, size_t prices_length, const uint8_t *log, size_t log_length,
+                                         const uint32_t *rows, size_t rows_length);
 
 /* marks are the letters K and S; a transfer leaves the server nearest its target of those that hold the file, the lower of two.
  * rows_length counts numbers, four for each row, and so does the place of 31 where rows are too short.
@@ -87,10 +108,20 @@ struct caching_answer caching_check(const uint8_t *log, size_t log_length, const
 struct caching_answer caching_plan(const uint8_t *log, size_t log_length, uint8_t *marks, size_t marks_length,
                                    uint32_t *rows, size_t rows_length);
 
+struct caching_answer caching_plan_with(const uint8_t *prices, size_t prices_length, const uint8_t *log, size_t log_length, uint8_t *marks,
+                                        size_t marks_length, uint32_t *rows, size_t rows_length);
+
 /* value: how many costs, one for each number of first requests, from none to all */
 struct caching_answer caching_least(const uint8_t *log, size_t log_length, uint64_t *costs, size_t costs_length);
 
+struct caching_answer caching_least_with(const uint8_t *prices, size_t prices_length, const uint8_t *log, size_t log_length,
+                                         uint64_t *costs, size_t costs_length);
+
+/* the state has the prices of the class */
 struct caching_cache_answer caching_start(uint8_t file_class, uint8_t server_count, uint8_t home);
+
+struct caching_cache_answer caching_start_with(const uint8_t *prices, size_t prices_length, uint8_t file_class, uint8_t server_count,
+                                               uint8_t home);
 
 /* value 0: kept; value 1: sent, more: from which server */
 struct caching_scan_answer caching_scan(struct caching_cache cache, uint32_t second, uint16_t server);

@@ -10,23 +10,8 @@ is written, and the message names it.
 import struct
 import sys
 
-
-def number(word, bits, name):
-    if not (word.isascii() and word.isdigit()):
-        sys.exit(f'{name}: a whole number is wanted, not {word!r}')
-    digits = word.lstrip('0') or '0'
-    if len(digits) > 10 or int(digits) >= 2**bits:
-        sys.exit(f'{name}: {digits} is above {2**bits - 1}')
-    return int(digits)
-
-
-def requests(lines):
-    for place, line in enumerate(lines, 1):
-        words = line.split()
-        if words and not words[0].startswith('#'):
-            if len(words) != 2:
-                sys.exit(f'line {place}: two numbers are wanted, a second and a station')
-            yield number(words[0], 32, f'line {place}, second'), number(words[1], 16, f'line {place}, station')
+sys.dont_write_bytecode = True
+from two_numbers import give, number, pairs
 
 
 def checked_sum(data):
@@ -52,19 +37,9 @@ def main(words):
     file_id = words[3].encode(errors='surrogateescape') if len(words) == 4 else b''
     if len(file_id) > 16:
         sys.exit('ID: more than 16 bytes')
-    if sys.stdin is None or sys.stdout is None:
-        sys.exit('standard input and output must be open')
-    try:
-        lines = sys.stdin.buffer.read().decode('utf-8-sig').splitlines()
-    except (OSError, UnicodeDecodeError) as fault:
-        sys.exit(f'standard input: {fault}')
-    scans = list(requests(lines))
+    scans = list(pairs(('second', 32), ('station', 16)))
     number(str(len(scans)), 16, 'the number of scans')
-    try:
-        sys.stdout.buffer.write(log(*setup, file_id, scans))
-        sys.stdout.buffer.flush()
-    except OSError as fault:
-        sys.exit(f'standard output: {fault}')
+    give(log(*setup, file_id, scans))
 
 
 main(sys.argv[1:])

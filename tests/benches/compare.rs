@@ -12,6 +12,7 @@ use reference::calls::Calls;
 use reference::fast::{self, Fast};
 use reference::log::{Header, Log, Request};
 use reference::online::{Cache, Served};
+use reference::prices::{encode, Prices, HIGHEST};
 use reference::random::{random_requests, Random};
 use reference::Refusal;
 use std::hint::black_box;
@@ -19,6 +20,8 @@ use std::hint::black_box;
 const REQUESTS: [usize; 4] = [0, 64, 512, 2_048];
 const SERVERS: [u8; 3] = [1, 8, 64];
 const CALLS: [&str; 10] = ["plan", "least", "check", "read", "write", "scan", "scan in place", "close", "sum", "sum by bytes"];
+const START: &str = "start with a file";
+const CLASSES: [usize; 3] = [1, 8, 256];
 const ROWS: [u32; 3] = [4_096, 100_000, 1_000_000];
 const PROCESSES: usize = 6;
 const ROUNDS: usize = 2;
@@ -169,10 +172,10 @@ struct Case {
 fn case(count: usize, server_count: u8) -> Case {
     let header = Header { class: 1, server_count, home: 0, id: [7; 16] };
     let mut random = Random::new(count as u64 * 100 + server_count as u64);
-    let log = Log { header, requests: random_requests(&mut random, &header, count) };
+    let log = Log { header, requests: random_requests(&mut random, Prices::of(header.class), &header, count) };
     let file = log.bytes();
     let mut rows = vec![0; 8 * count];
-    let (_, number) = Fast::plan(&file, &mut vec![0; count], &mut rows).unwrap();
+    let (_, number) = Fast::plan(None, &file, &mut vec![0; count], &mut rows).unwrap();
     rows.truncate(4 * number as usize);
     Case { log, file, rows }
 }
@@ -189,7 +192,7 @@ type Answer = Result<Served, Refusal>;
 
 /// A whole log given to a new cache, a state going in and coming back by value; and what is done with each answer.
 fn online<C: Calls>(log: &Log, mut answered: impl FnMut(Answer)) -> Cache {
-    let (mut cache, _) = C::start(log.header.class, log.header.server_count, log.header.home);
+    let (mut cache, _) = C::start(None, log.header.class, log.header.server_count, log.header.home);
     for request in &log.requests {
         let (next, served) = C::scan(&cache, request.second, request.server);
         answered(served);
@@ -200,7 +203,7 @@ fn online<C: Calls>(log: &Log, mut answered: impl FnMut(Answer)) -> Cache {
 
 /// The same in place, as Rust alone has it.
 fn online_in_place(log: &Log, mut answered: impl FnMut(Answer)) -> Cache {
-    let (mut cache, _) = Fast::start(log.header.class, log.header.server_count, log.header.home);
+    let (mut cache, _) = Fast::start(None, log.header.class, log.header.server_count, log.header.home);
     for request in &log.requests {
         answered(fast::online::scan(&mut cache, request.second, request.server));
     }
@@ -222,47 +225,47 @@ fn measure(call: &str, case: &Case) -> Times {
         "plan" => {
             let (mut marks_a, mut rows_a) = (output(count), output(rows.len()));
             let (mut marks_b, mut rows_b) = (output(count), output(rows.len()));
-            assert_eq!(Library::plan(file, &mut marks_a, &mut rows_a), Fast::plan(file, &mut marks_b, &mut rows_b));
+            assert_eq!(Library::plan(None, file, &mut marks_a, &mut rows_a), Fast::plan(None, file, &mut marks_b, &mut rows_b));
             assert_eq!((&marks_a, &rows_a), (&marks_b, &rows_b));
             times(
-                &mut || used(Library::plan(black_box(file), &mut marks_a, &mut rows_a)),
-                &mut || used(Fast::plan(black_box(file), &mut marks_b, &mut rows_b)),
+                &mut || used(Library::plan(None, black_box(file), &mut marks_a, &mut rows_a)),
+                &mut || used(Fast::plan(None, black_box(file), &mut marks_b, &mut rows_b)),
             )
         }
         "least" => {
             let (mut costs_a, mut costs_b) = (output(count + 1), output(count + 1));
-            assert_eq!(Library::least(file, &mut costs_a), Fast::least(file, &mut costs_b));
+            assert_eq!(Library::least(None, file, &mut costs_a), Fast::least(None, file, &mut costs_b));
             assert_eq!(costs_a, costs_b);
             times(
-                &mut || used(Library::least(black_box(file), &mut costs_a)),
-                &mut || used(Fast::least(black_box(file), &mut costs_b)),
+                &mut || used(Library::least(None, black_box(file), &mut costs_a)),
+                &mut || used(Fast::least(None, black_box(file), &mut costs_b)),
             )
         }
         "check" => {
-            assert_eq!(Library::check(file, rows), Fast::check(file, rows));
+            assert_eq!(Library::check(None, file, rows), Fast::check(None, file, rows));
             times(
-                &mut || used(Library::check(black_box(file), black_box(rows))),
-                &mut || used(Fast::check(black_box(file), black_box(rows))),
+                &mut || used(Library::check(None, black_box(file), black_box(rows))),
+                &mut || used(Fast::check(None, black_box(file), black_box(rows))),
             )
         }
         "read" => {
             let (mut seconds_a, mut servers_a) = (output(count), output(count));
             let (mut seconds_b, mut servers_b) = (output(count), output(count));
-            assert_eq!(Library::read(file, &mut seconds_a, &mut servers_a), Fast::read(file, &mut seconds_b, &mut servers_b));
+            assert_eq!(Library::read(None, file, &mut seconds_a, &mut servers_a), Fast::read(None, file, &mut seconds_b, &mut servers_b));
             assert_eq!((&seconds_a, &servers_a), (&seconds_b, &servers_b));
             times(
-                &mut || used(Library::read(black_box(file), &mut seconds_a, &mut servers_a)),
-                &mut || used(Fast::read(black_box(file), &mut seconds_b, &mut servers_b)),
+                &mut || used(Library::read(None, black_box(file), &mut seconds_a, &mut servers_a)),
+                &mut || used(Fast::read(None, black_box(file), &mut seconds_b, &mut servers_b)),
             )
         }
         "write" => {
             let (seconds, servers) = (log.seconds(), log.servers());
             let (mut file_a, mut file_b) = (output(file.len()), output(file.len()));
-            assert_eq!(Library::write(&log.header, &seconds, &servers, &mut file_a), Fast::write(&log.header, &seconds, &servers, &mut file_b));
+            assert_eq!(Library::write(None, &log.header, &seconds, &servers, &mut file_a), Fast::write(None, &log.header, &seconds, &servers, &mut file_b));
             assert_eq!(file_a, file_b);
             times(
-                &mut || used(Library::write(&log.header, black_box(&seconds), &servers, &mut file_a)),
-                &mut || used(Fast::write(&log.header, black_box(&seconds), &servers, &mut file_b)),
+                &mut || used(Library::write(None, &log.header, black_box(&seconds), &servers, &mut file_a)),
+                &mut || used(Fast::write(None, &log.header, black_box(&seconds), &servers, &mut file_b)),
             )
         }
         "sum" => {
@@ -373,20 +376,35 @@ impl Schedule {
 /// The checker on as many rows as a schedule may well have.
 fn check_rows(schedule: Schedule, rows: u32) -> Line {
     let (file, numbers) = schedule.case(rows);
-    let answer = Fast::check(&file, &numbers);
+    let answer = Fast::check(None, &file, &numbers);
     assert!(answer.is_ok(), "{answer:?}");
-    assert_eq!(Library::check(&file, &numbers), answer);
+    assert_eq!(Library::check(None, &file, &numbers), answer);
     let mut least = Times::NONE;
     for _ in 0..ROUNDS {
         least = least.min(times(
-            &mut || used(Library::check(black_box(&file), black_box(&numbers))),
-            &mut || used(Fast::check(black_box(&file), black_box(&numbers))),
+            &mut || used(Library::check(None, black_box(&file), black_box(&numbers))),
+            &mut || used(Fast::check(None, black_box(&file), black_box(&numbers))),
         ));
     }
     Line::new(schedule.name(), 0, numbers.len() as u32 / 4, least)
 }
 
-/// One process's times: of the calls on logs of each size, then of the checker on many rows.
+/// A start alone, of the last class of a price file.
+fn start_with(classes: usize) -> Line {
+    let file = encode(&vec![(3, HIGHEST); classes]);
+    let class = (classes - 1) as u8;
+    assert_eq!(Library::start(Some(&file), class, 64, 0), Fast::start(Some(&file), class, 64, 0));
+    let mut least = Times::NONE;
+    for _ in 0..ROUNDS {
+        least = least.min(times(
+            &mut || used(Library::start(Some(black_box(&file)), class, 64, 0)),
+            &mut || used(Fast::start(Some(black_box(&file)), class, 64, 0)),
+        ));
+    }
+    Line::new(START, 0, classes as u32, least)
+}
+
+/// One process's times: of the calls on logs of each size, then of a start with a price file, then of the checker on many rows.
 fn measured(wanted: &dyn Fn(&str) -> bool) -> Vec<Line> {
     let mut lines = Vec::new();
     for call in CALLS.into_iter().filter(|call| wanted(call)) {
@@ -397,6 +415,9 @@ fn measured(wanted: &dyn Fn(&str) -> bool) -> Vec<Line> {
                 lines.push(Line::new(call, server_count as u32, count as u32, least));
             }
         }
+    }
+    if wanted(START) {
+        lines.extend(CLASSES.map(start_with));
     }
     if wanted("rows") {
         for schedule in Schedule::ALL {
@@ -423,7 +444,7 @@ fn gathered(words: &[String]) -> Vec<Line> {
     least
 }
 
-/// Names of calls on the command line choose these alone, and `rows` the checker on many rows.
+/// Names of calls on the command line choose these alone, `start with a file` in quotes, and `rows` the checker on many rows.
 fn main() {
     let words: Vec<String> = std::env::args().skip(1).filter(|word| !word.starts_with('-')).collect();
     let wanted = |name: &str| words.is_empty() || words.iter().any(|word| word == name);
@@ -432,10 +453,14 @@ fn main() {
         return;
     }
     let lines = gathered(&words);
-    let (calls, rows): (Vec<Line>, Vec<Line>) = lines.into_iter().partition(|line| line.servers > 0);
+    let (calls, others): (Vec<Line>, Vec<Line>) = lines.into_iter().partition(|line| line.servers > 0);
+    let (starts, rows): (Vec<Line>, Vec<Line>) = others.into_iter().partition(|line| line.name == START);
     if !calls.is_empty() {
         show_summary(&calls);
         show_calls(&calls);
+    }
+    if !starts.is_empty() {
+        show_starts(&starts);
     }
     if !rows.is_empty() {
         show_rows(&rows);
@@ -471,6 +496,16 @@ fn show_calls(lines: &[Line]) {
     for (i, line) in lines.iter().enumerate() {
         let before = if line.size == 0 { None } else { lines.get(i.wrapping_sub(1)) };
         println!("| {} | {} | {} | {} |", line.name, line.servers, line.size, line.columns(before));
+    }
+}
+
+fn show_starts(lines: &[Line]) {
+    println!("\n## A start with a price file\n");
+    println!("A start alone, of the file's last class. Growth is against the line above.\n");
+    println!("| call | classes | library | growth | Rust | growth | library / Rust | range |");
+    println!("|---|---:|---:|---:|---:|---:|---:|---:|");
+    for (i, line) in lines.iter().enumerate() {
+        println!("| {} | {} | {} |", line.name, line.size, line.columns(lines.get(i.wrapping_sub(1))));
     }
 }
 

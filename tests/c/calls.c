@@ -1,4 +1,4 @@
-/* Every call of include/caching.h once, on the week of document 01's case C, as C links it; prints what each gives. */
+/* Every call of include/caching.h once, on the week of document 01's case C, as C links it, then those with a price file; prints what each gives. */
 #include "../../include/caching.h"
 #include <stdio.h>
 #include <string.h>
@@ -56,5 +56,39 @@ int main(void)
     say("close", live.answer);
     say("close again", caching_close(live.cache).answer);
     say("running still", caching_running(live.cache));
+
+    /* two classes, 5 and 3, 2 and 20; the same with one byte less, and with a price of 0 */
+    const uint8_t prices[20] = {2, 0, 4, 0, 5, 0, 0, 0, 3, 0, 0, 0, 2, 0, 0, 0, 20, 0, 0, 0};
+    uint8_t wrong[20];
+    memcpy(wrong, prices, 20);
+    wrong[12] = 0;
+    header.file_class = 1;
+    say("write with", caching_write_with(prices, 20, header, seconds, 4, servers, 4, log, 64));
+    say("write with wrong", caching_write_with(wrong, 20, header, seconds, 4, servers, 4, log, 64));
+    read = caching_read_with(prices, 20, log, 64, seconds_read, 5, servers_read, 5);
+    say("read with", read.answer);
+    printf("read back: %d\n", memcmp(&read.header, &header, sizeof header) == 0);
+    say("read with short", caching_read_with(prices, 19, NULL, 0, NULL, 0, NULL, 0).answer);
+    plan = caching_plan_with(prices, 20, log, 64, marks, 4, rows, 32);
+    say("plan with", plan);
+    printf("marks: %.4s\n", (const char *)marks);
+    say("plan with wrong", caching_plan_with(wrong, 20, log, 64, marks, 4, rows, 32));
+    say("check with", caching_check_with(prices, 20, log, 64, rows, 4 * plan.more));
+    say("check with nothing", caching_check_with(NULL, 0, log, 64, rows, 4 * plan.more));
+    say("least with", caching_least_with(prices, 20, log, 64, costs, 5));
+    for (int k = 0; k < 5; k++)
+        printf("least %d: %llu\n", k, (unsigned long long)costs[k]);
+    say("least with wrong", caching_least_with(wrong, 20, log, 64, costs, 5));
+
+    say("start with no such class", caching_start_with(prices, 20, 2, 3, 0).answer);
+    live = caching_start_with(prices, 20, 1, 3, 0);
+    say("start with", live.answer);
+    printf("prices: %u %u\n", (unsigned)live.cache.prices.hold, (unsigned)live.cache.prices.transfer);
+    struct caching_scan_answer scan = caching_scan(live.cache, 1, 1);
+    say("scan", scan.answer);
+    printf("running: %llu\n", (unsigned long long)scan.running);
+    say("close", caching_close(scan.cache).answer);
+    scan.cache.prices.hold = 1000001;
+    say("close with a price above the highest", caching_close(scan.cache).answer);
     return 0;
 }

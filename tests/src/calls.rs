@@ -2,31 +2,33 @@
 //! a refused one leaves them all as they were.
 
 use crate::checker::{self, flat};
-use crate::log::{self, Header};
+use crate::log::{self, Header, Log};
 use crate::online::{self, Cache, Served};
 use crate::planner::{self, letter};
+use crate::prices::{PriceFile, Prices, Table};
 use crate::{refuse, Refusal};
 
-/// An implementation of the public calls.
+/// An implementation of the public calls. Those that need prices take a price file or none, and judge it at each call.
 pub trait Calls {
     fn sum(file: &[u8]) -> u32;
 
     /// A header, of zeros if refused, and the number of requests.
-    fn read(file: &[u8], seconds: &mut [u32], servers: &mut [u16]) -> (Header, Result<u16, Refusal>);
+    fn read(prices: PriceFile, file: &[u8], seconds: &mut [u32], servers: &mut [u16]) -> (Header, Result<u16, Refusal>);
 
     /// The length of the log.
-    fn write(header: &Header, seconds: &[u32], servers: &[u16], out: &mut [u8]) -> Result<u64, Refusal>;
+    fn write(prices: PriceFile, header: &Header, seconds: &[u32], servers: &[u16], out: &mut [u8]) -> Result<u64, Refusal>;
 
     /// The cost of the rows.
-    fn check(file: &[u8], rows: &[u32]) -> Result<u64, Refusal>;
+    fn check(prices: PriceFile, file: &[u8], rows: &[u32]) -> Result<u64, Refusal>;
 
     /// The cost and the number of rows.
-    fn plan(file: &[u8], marks: &mut [u8], rows: &mut [u32]) -> Result<(u64, u32), Refusal>;
+    fn plan(prices: PriceFile, file: &[u8], marks: &mut [u8], rows: &mut [u32]) -> Result<(u64, u32), Refusal>;
 
     /// The number of least costs: one for none, one, .. and all requests.
-    fn least(file: &[u8], costs: &mut [u64]) -> Result<u32, Refusal>;
+    fn least(prices: PriceFile, file: &[u8], costs: &mut [u64]) -> Result<u32, Refusal>;
 
-    fn start(class: u8, server_count: u8, home: u8) -> (Cache, Result<(), Refusal>);
+    /// A state, of zeros if refused.
+    fn start(prices: PriceFile, class: u8, server_count: u8, home: u8) -> (Cache, Result<(), Refusal>);
 
     fn scan(cache: &Cache, second: u32, server: u16) -> (Cache, Result<Served, Refusal>);
 
@@ -53,8 +55,14 @@ fn put<T: Copy + Default>(out: &mut [T], answer: &[T]) {
     out[..answer.len()].copy_from_slice(answer);
 }
 
-fn read_accepted(file: &[u8], seconds: &mut [u32], servers: &mut [u16]) -> Result<(Header, u16), Refusal> {
-    let log = log::read(file)?;
+fn accepted(prices: PriceFile, file: &[u8]) -> Result<(Prices, Log), Refusal> {
+    let table = Table::read(prices)?;
+    let log = log::read(table.classes(), file)?;
+    Ok((table.of(log.header.class), log))
+}
+
+fn read_accepted(prices: PriceFile, file: &[u8], seconds: &mut [u32], servers: &mut [u16]) -> Result<(Header, u16), Refusal> {
+    let (_, log) = accepted(prices, file)?;
     check_room(seconds.len(), log.requests.len())?;
     check_room(servers.len(), log.requests.len())?;
     put(seconds, &log.seconds());
@@ -62,31 +70,39 @@ fn read_accepted(file: &[u8], seconds: &mut [u32], servers: &mut [u16]) -> Resul
     Ok((log.header, log.requests.len() as u16))
 }
 
+fn started(prices: PriceFile, class: u8, server_count: u8, home: u8) -> Result<Cache, Refusal> {
+    let table = Table::read(prices)?;
+    log::check_setup(table.classes(), class, server_count, home)?;
+    Ok(Cache::fresh(table.of(class), server_count, home))
+}
+
 impl Calls for Simple {
     fn sum(file: &[u8]) -> u32 {
         log::sum(file)
     }
 
-    fn read(file: &[u8], seconds: &mut [u32], servers: &mut [u16]) -> (Header, Result<u16, Refusal>) {
-        match read_accepted(file, seconds, servers) {
+    fn read(prices: PriceFile, file: &[u8], seconds: &mut [u32], servers: &mut [u16]) -> (Header, Result<u16, Refusal>) {
+        match read_accepted(prices, file, seconds, servers) {
             Ok((header, count)) => (header, Ok(count)),
             Err(refusal) => (Header::default(), Err(refusal)),
         }
     }
 
-    fn write(header: &Header, seconds: &[u32], servers: &[u16], out: &mut [u8]) -> Result<u64, Refusal> {
-        let file = log::write(header, seconds, servers)?;
+    fn write(prices: PriceFile, header: &Header, seconds: &[u32], servers: &[u16], out: &mut [u8]) -> Result<u64, Refusal> {
+        let file = log::write(Table::read(prices)?.classes(), header, seconds, servers)?;
         check_room(out.len(), file.len())?;
         put(out, &file);
         Ok(file.len() as u64)
     }
 
-    fn check(file: &[u8], rows: &[u32]) -> Result<u64, Refusal> {
-        checker::check(&log::read(file)?, rows)
+    fn check(prices: PriceFile, file: &[u8], rows: &[u32]) -> Result<u64, Refusal> {
+        let (prices, log) = accepted(prices, file)?;
+        checker::check(prices, &log, rows)
     }
 
-    fn plan(file: &[u8], marks: &mut [u8], rows: &mut [u32]) -> Result<(u64, u32), Refusal> {
-        let plan = planner::plan(&log::read(file)?);
+    fn plan(prices: PriceFile, file: &[u8], marks: &mut [u8], rows: &mut [u32]) -> Result<(u64, u32), Refusal> {
+        let (prices, log) = accepted(prices, file)?;
+        let plan = planner::plan(prices, &log);
         check_room(marks.len(), plan.marks.len())?;
         check_room(rows.len(), 4 * plan.rows.len())?;
         put(marks, &plan.marks.iter().map(|&mark| letter(mark)).collect::<Vec<_>>());
@@ -94,15 +110,16 @@ impl Calls for Simple {
         Ok((plan.cost, plan.rows.len() as u32))
     }
 
-    fn least(file: &[u8], costs: &mut [u64]) -> Result<u32, Refusal> {
-        let least = planner::least(&log::read(file)?);
+    fn least(prices: PriceFile, file: &[u8], costs: &mut [u64]) -> Result<u32, Refusal> {
+        let (prices, log) = accepted(prices, file)?;
+        let least = planner::least(prices, &log);
         check_room(costs.len(), least.len())?;
         put(costs, &least);
         Ok(least.len() as u32)
     }
 
-    fn start(class: u8, server_count: u8, home: u8) -> (Cache, Result<(), Refusal>) {
-        online::start(class, server_count, home)
+    fn start(prices: PriceFile, class: u8, server_count: u8, home: u8) -> (Cache, Result<(), Refusal>) {
+        online::or_zeros(started(prices, class, server_count, home))
     }
 
     fn scan(cache: &Cache, second: u32, server: u16) -> (Cache, Result<Served, Refusal>) {

@@ -63,8 +63,8 @@ pub fn flat(rows: &[Row]) -> Vec<u32> {
 pub fn cost_of(prices: Prices, rows: &[Row]) -> u64 {
     rows.iter()
         .map(|row| match row {
-            Row::Hold { from, to, .. } => prices.hold * (to - from) as u64,
-            Row::Transfer { .. } => prices.transfer,
+            Row::Hold { from, to, .. } => prices.cost((to - from) as u64, 0),
+            Row::Transfer { .. } => prices.cost(0, 1),
         })
         .sum()
 }
@@ -116,7 +116,7 @@ pub fn rows_of(log: &Log, numbers: &[u32]) -> Result<Vec<Row>, Refusal> {
 }
 
 /// The cost of a schedule for an accepted log, or the first of 14 to 18.
-pub fn check(log: &Log, numbers: &[u32]) -> Result<u64, Refusal> {
+pub fn check(prices: Prices, log: &Log, numbers: &[u32]) -> Result<u64, Refusal> {
     let rows = rows_of(log, numbers)?;
     let mut known: HashMap<u32, BTreeSet<u32>> = HashMap::new();
     let mut stands = |server: u32, t: u32| {
@@ -137,7 +137,7 @@ pub fn check(log: &Log, numbers: &[u32]) -> Result<u64, Refusal> {
             return refuse(18, i + 1);
         }
     }
-    Ok(cost_of(Prices::of(log.header.class), &rows))
+    Ok(cost_of(prices, &rows))
 }
 
 #[cfg(test)]
@@ -151,13 +151,13 @@ mod tests {
     }
 
     fn verdict(log: &Log, rows: &[[u32; 4]]) -> Result<u64, Refusal> {
-        check(log, &rows.concat())
+        check(Prices::of(0), log, &rows.concat())
     }
 
     #[test]
     fn form() {
         let week = log(3, &[(5, 1), (9, 1)]);
-        assert_eq!(check(&week, &[0; 5]), refuse(14, 0));
+        assert_eq!(check(Prices::of(0), &week, &[0; 5]), refuse(14, 0));
         for row in [[2, 0, 0, 5], [0, 3, 0, 5], [0, 0, 5, 5], [0, 0, 0, 10], [1, 1, 1, 5], [1, 3, 1, 5], [1, 0, 3, 5], [1, 0, 1, 10]] {
             assert_eq!(verdict(&week, &[row]), refuse(15, 1), "{row:?}");
         }

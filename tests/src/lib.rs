@@ -1,4 +1,4 @@
-//! Document 01 implemented a second time, from its words and from nothing else, to compare the proved library with.
+//! Document 01, with what has landed of 02, implemented a second time, from their words and from nothing else, to compare the proved library with.
 //!
 //! It is simple on purpose: it allocates, and takes the plain way where there is one. What the benchmark
 //! runs beside the library is in `fast`, and is compared with the simple version here.

@@ -36,17 +36,17 @@ pub fn sum(file: &[u8]) -> u32 {
     sum as u32
 }
 
-fn number16(file: &[u8], at: usize) -> u16 {
+pub fn number16(file: &[u8], at: usize) -> u16 {
     u16::from_le_bytes(file[at..at + 2].try_into().unwrap())
 }
 
-fn number32(file: &[u8], at: usize) -> u32 {
+pub fn number32(file: &[u8], at: usize) -> u32 {
     u32::from_le_bytes(file[at..at + 4].try_into().unwrap())
 }
 
-/// 3, 4, 5.
-pub fn check_setup(class: u8, server_count: u8, home: u8) -> Result<(), Refusal> {
-    if class > 7 {
+/// 3, 4, 5, for a number of classes.
+pub fn check_setup(classes: usize, class: u8, server_count: u8, home: u8) -> Result<(), Refusal> {
+    if class as usize >= classes {
         return refuse(3, 0);
     }
     if server_count < 1 || server_count > 64 {
@@ -75,7 +75,7 @@ fn check_requests(server_count: u8, requests: &[Request]) -> Result<(), Refusal>
 }
 
 /// The header and the number of requests, or the first of 1 to 10 that holds, by a way to take the sum.
-pub fn header_of(file: &[u8], sum: impl Fn(&[u8]) -> u32) -> Result<(Header, usize), Refusal> {
+pub fn header_of(classes: usize, file: &[u8], sum: impl Fn(&[u8]) -> u32) -> Result<(Header, usize), Refusal> {
     if file.len() < 40 {
         return refuse(1, 0);
     }
@@ -83,7 +83,7 @@ pub fn header_of(file: &[u8], sum: impl Fn(&[u8]) -> u32) -> Result<(Header, usi
         return refuse(2, 0);
     }
     let header = Header { class: file[2], server_count: file[3], home: file[4], id: file[24..40].try_into().unwrap() };
-    check_setup(header.class, header.server_count, header.home)?;
+    check_setup(classes, header.class, header.server_count, header.home)?;
     if file[5] != 0 {
         return refuse(6, 0);
     }
@@ -105,8 +105,8 @@ pub fn header_of(file: &[u8], sum: impl Fn(&[u8]) -> u32) -> Result<(Header, usi
 }
 
 /// The log in a file, or the first of 1 to 13 that holds.
-pub fn read(file: &[u8]) -> Result<Log, Refusal> {
-    let (header, count) = header_of(file, sum)?;
+pub fn read(classes: usize, file: &[u8]) -> Result<Log, Refusal> {
+    let (header, count) = header_of(classes, file, sum)?;
     let mut requests = Vec::new();
     for i in 0..count {
         let at = 40 + 6 * i;
@@ -137,8 +137,8 @@ pub fn encode(header: &Header, requests: &[Request]) -> Vec<u8> {
 }
 
 /// The file for a header and two lists, or the first of 3, 4, 5, 7 and 11 to 13 that holds.
-pub fn write(header: &Header, seconds: &[u32], servers: &[u16]) -> Result<Vec<u8>, Refusal> {
-    check_setup(header.class, header.server_count, header.home)?;
+pub fn write(classes: usize, header: &Header, seconds: &[u32], servers: &[u16]) -> Result<Vec<u8>, Refusal> {
+    check_setup(classes, header.class, header.server_count, header.home)?;
     if seconds.len() != servers.len() || seconds.len() > MOST_REQUESTS {
         return refuse(7, 0);
     }
@@ -174,7 +174,8 @@ impl Log {
 #[cfg(test)]
 mod tests {
     use super::*;
-    use crate::random::{damaged_log, random_log, Random};
+    use crate::prices::Table;
+    use crate::random::{damaged_log, random_log, random_table, Random};
 
     #[test]
     fn layout_of_a_small_log() {
@@ -205,10 +206,11 @@ mod tests {
     fn read_and_write_are_inverse() {
         let mut random = Random::new(1);
         for _ in 0..500 {
-            let log = random_log(&mut random, 40);
+            let table = random_table(&mut random);
+            let log = random_log(&mut random, &table, 40);
             let file = log.bytes();
-            assert_eq!(read(&file), Ok(log.clone()));
-            assert_eq!(write(&log.header, &log.seconds(), &log.servers()), Ok(file));
+            assert_eq!(read(table.classes(), &file), Ok(log.clone()));
+            assert_eq!(write(table.classes(), &log.header, &log.seconds(), &log.servers()), Ok(file));
         }
     }
 
@@ -216,14 +218,14 @@ mod tests {
     fn each_refusal_alone() {
         let header = Header { class: 0, server_count: 2, home: 0, id: [9; 16] };
         let good = encode(&header, &[Request { second: 3, server: 1 }, Request { second: 9, server: 0 }]);
-        assert!(read(&good).is_ok());
-        assert_eq!(read(&good[..39]), refuse(1, 0));
+        assert!(read(8, &good).is_ok());
+        assert_eq!(read(8, &good[..39]), refuse(1, 0));
         let changed = |at: usize, byte: u8| {
             let mut file = good.clone();
             file[at] = byte;
             let s = sum(&file);
             file[20..24].copy_from_slice(&s.to_le_bytes());
-            read(&file)
+            read(8, &file)
         };
         assert_eq!(changed(1, 1), refuse(2, 0));
         assert_eq!(changed(2, 8), refuse(3, 0));
@@ -241,11 +243,21 @@ mod tests {
         assert_eq!(changed(49, 1), refuse(12, 2));
         assert_eq!(changed(46, 3), refuse(13, 2));
         let longer: Vec<u8> = good.iter().copied().chain([0]).collect();
-        assert_eq!(read(&longer), refuse(9, 0));
-        assert_eq!(read(&good[..51]), refuse(9, 0));
+        assert_eq!(read(8, &longer), refuse(9, 0));
+        assert_eq!(read(8, &good[..51]), refuse(9, 0));
         let mut summed = good.clone();
         summed[20] ^= 1;
-        assert_eq!(read(&summed), refuse(10, 0));
+        assert_eq!(read(8, &summed), refuse(10, 0));
+    }
+
+    #[test]
+    fn classes() {
+        for classes in [1, 2, 8, 255, 256] {
+            let of_class = |class| read(classes, &encode(&Header { class, server_count: 1, home: 0, id: [0; 16] }, &[]));
+            assert!(of_class((classes - 1) as u8).is_ok());
+            assert!(of_class(classes as u8) == refuse(3, 0) || classes == 256);
+            assert!(of_class(255) == refuse(3, 0) || classes == 256);
+        }
     }
 
     #[test]
@@ -253,7 +265,7 @@ mod tests {
         let mut random = Random::new(2);
         let mut met = [0u32; 14];
         for _ in 0..20_000 {
-            if let Err(refusal) = read(&damaged_log(&mut random)) {
+            if let Err(refusal) = read(8, &damaged_log(&mut random, &Table::built_in())) {
                 met[refusal.number as usize] += 1;
             }
         }

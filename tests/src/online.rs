@@ -1,6 +1,6 @@
-//! 01, 'The live keeper', the refusals 3 to 5, 11, 12 and 32 to 35, and 02's request 02.
+//! 01, 'The live keeper', the refusals 11, 12 and 32 to 35, and 02's requests 02 and 05.
 
-use crate::log::{check_setup, Request, LAST_SECOND, MOST_REQUESTS};
+use crate::log::{Request, LAST_SECOND, MOST_REQUESTS};
 use crate::planner::Mark;
 use crate::prices::Prices;
 use crate::{refuse, Refusal};
@@ -9,7 +9,7 @@ use crate::{refuse, Refusal};
 #[repr(C)]
 #[derive(Clone, Copy, Debug, PartialEq, Eq)]
 pub struct Cache {
-    pub class: u8,
+    pub prices: Prices,
     pub server_count: u8,
     pub last: u16,
     pub second: u32,
@@ -42,7 +42,7 @@ pub const MOST_HELD: u32 = 256_000_000;
 
 /// The state of a refused start.
 pub const ZEROS: Cache = Cache {
-    class: 0,
+    prices: Prices { hold: 0, transfer: 0 },
     server_count: 0,
     last: 0,
     second: 0,
@@ -54,32 +54,32 @@ pub const ZEROS: Cache = Cache {
     closed: false,
 };
 
-/// The answer beside the state: given back unchanged by a refusal.
-pub fn start(class: u8, server_count: u8, home: u8) -> (Cache, Result<(), Refusal>) {
-    if let Err(refusal) = check_setup(class, server_count, home) {
-        return (ZEROS, Err(refusal));
+/// The answer of a start, beside the state that it gives.
+pub fn or_zeros(started: Result<Cache, Refusal>) -> (Cache, Result<(), Refusal>) {
+    match started {
+        Ok(cache) => (cache, Ok(())),
+        Err(refusal) => (ZEROS, Err(refusal)),
     }
-    let cache = Cache { class, server_count, last: home as u16, holders: 1 << home, ..ZEROS };
-    (cache, Ok(()))
 }
 
 impl Cache {
+    /// The copy at home, nothing used, held or sent.
+    pub fn fresh(prices: Prices, server_count: u8, home: u8) -> Cache {
+        Cache { prices, server_count, last: home as u16, holders: 1 << home, ..ZEROS }
+    }
+
     fn has(&self, server: usize) -> bool {
         self.holders >> server & 1 == 1
     }
 
-    fn window(&self) -> u64 {
-        Prices::of(self.class).window()
-    }
-
     /// The last second of a copy that is not the last request's.
     fn end(&self, server: usize) -> u64 {
-        self.last_use[server] as u64 + self.window()
+        self.last_use[server] as u64 + self.prices.window()
     }
 
     /// 32.
     pub fn is_unsound(&self) -> bool {
-        if self.class > 7 || self.server_count < 1 || self.server_count > 64 || self.second > LAST_SECOND {
+        if !self.prices.in_range() || self.server_count < 1 || self.server_count > 64 || self.second > LAST_SECOND {
             return true;
         }
         let last = self.last as usize;
@@ -187,13 +187,12 @@ impl Cache {
     fn closing_cost(&self) -> u64 {
         let now = self.second as u64;
         let left: u64 = (0..64).filter(|&server| self.has(server)).map(|server| self.end(server) - now).sum();
-        self.cost() + Prices::of(self.class).hold * left
+        self.cost() + self.prices.cost(left, 0)
     }
 
-    /// The running cost, of a state with a class from 0 to 7.
+    /// The running cost, of a state that 32 lets pass.
     pub fn cost(&self) -> u64 {
-        let prices = Prices::of(self.class);
-        prices.hold * self.held as u64 + prices.transfer * self.transfers as u64
+        self.prices.cost(self.held as u64, self.transfers as u64)
     }
 }
 
@@ -210,14 +209,13 @@ pub struct History {
 
 impl History {
     /// Everything held and sent, to the end of the last window.
-    pub fn closing_cost(&self, class: u8) -> u64 {
-        let prices = Prices::of(class);
-        prices.hold * (self.held as u64 + self.left) + prices.transfer * self.transfers as u64
+    pub fn closing_cost(&self, prices: Prices) -> u64 {
+        prices.cost(self.held as u64 + self.left, self.transfers as u64)
     }
 }
 
-pub fn history(class: u8, home: u8, requests: &[Request]) -> History {
-    let window = Prices::of(class).window();
+pub fn history(prices: Prices, home: u8, requests: &[Request]) -> History {
+    let window = prices.window();
     // the use second of each copy that stands
     let mut uses: Vec<Option<u64>> = vec![None; 64];
     uses[home as usize] = Some(0);
@@ -257,23 +255,22 @@ pub fn history(class: u8, home: u8, requests: &[Request]) -> History {
 mod tests {
     use super::*;
     use crate::planner;
-    use crate::random::{random_header, random_requests, Random};
+    use crate::calls::{Calls, Simple};
     use crate::log::Log;
+    use crate::prices::HIGHEST;
+    use crate::random::{random_header, random_requests, random_table, Random};
 
     #[test]
     fn state_and_history_agree_and_stay_within_three_times_the_least() {
         let mut random = Random::new(6);
         for _ in 0..3_000 {
-            let mut header = random_header(&mut random);
-            if header.class == 7 {
-                header.class = 6;
-            }
+            let table = random_table(&mut random);
+            let header = random_header(&mut random, &table);
+            let prices = table.of(header.class);
             let count = random.below(25) as usize;
-            let mut requests = random_requests(&mut random, &header, count);
-            if requests.last().map_or(false, |request| request.second == LAST_SECOND) {
-                requests.pop();
-            }
-            let (mut cache, ready) = start(header.class, header.server_count, header.home);
+            let mut requests = random_requests(&mut random, prices, &header, count);
+            requests.retain(|request| request.second <= 20_000);
+            let (mut cache, ready) = Simple::start(table.file(), header.class, header.server_count, header.home);
             assert_eq!(ready, Ok(()));
             let mut marks = vec![];
             for request in &requests {
@@ -282,20 +279,21 @@ mod tests {
                 marks.push(served.unwrap().mark());
                 cache = next;
             }
-            let history = history(header.class, header.home, &requests);
+            let history = history(prices, header.home, &requests);
             let closing = cache.close().1.unwrap();
-            assert_eq!(closing, history.closing_cost(header.class), "{header:?} {requests:?}");
+            assert_eq!(closing, history.closing_cost(prices), "{prices:?} {header:?} {requests:?}");
             let state = History { marks, transfers: cache.transfers, held: cache.held, standing: cache.holders, left: history.left };
-            assert_eq!(state, history, "{header:?} {requests:?}");
-            let least = planner::plan(&Log { header, requests }).cost;
+            assert_eq!(state, history, "{prices:?} {header:?} {requests:?}");
+            let least = planner::plan(prices, &Log { header, requests }).cost;
             let running = cache.running().unwrap();
             assert!(least <= running && running <= 3 * least);
-            assert!(running <= closing && closing <= 3 * least + Prices::of(header.class).transfer);
+            assert!(running <= closing && closing <= 3 * least + prices.transfer as u64);
         }
     }
 
     #[test]
     fn refusals() {
+        let start = |class, server_count, home| Simple::start(None, class, server_count, home);
         let (cache, _) = start(0, 2, 0);
         assert_eq!(start(8, 2, 0), (ZEROS, refuse(3, 0)));
         assert_eq!(start(0, 0, 0), (ZEROS, refuse(4, 0)));
@@ -323,8 +321,7 @@ mod tests {
 
     #[test]
     fn each_condition_of_32() {
-        let (first, _) = start(0, 3, 0);
-        let (cache, _) = first.scan(5, 1);
+        let (cache, _) = Cache::fresh(Prices { hold: 1, transfer: 10 }, 3, 0).scan(5, 1);
         assert!(!cache.is_unsound());
         let with_use = |server: usize, second: u32| {
             let mut changed = cache;
@@ -332,7 +329,11 @@ mod tests {
             changed
         };
         let unsound = [
-            Cache { class: 8, ..cache },
+            Cache { prices: Prices { hold: 0, transfer: 10 }, ..cache },
+            Cache { prices: Prices { hold: 1, transfer: 0 }, ..cache },
+            Cache { prices: Prices { hold: HIGHEST + 1, transfer: 10 }, ..cache },
+            Cache { prices: Prices { hold: 1, transfer: HIGHEST + 1 }, ..cache },
+            Cache { prices: Prices { hold: 6, transfer: 25 }, ..with_use(0, 0) },
             Cache { server_count: 0, ..cache },
             Cache { server_count: 65, ..cache },
             Cache { second: LAST_SECOND + 1, ..cache },
@@ -351,7 +352,14 @@ mod tests {
         for state in unsound {
             assert!(state.is_unsound(), "{state:?}");
         }
-        let sound = [Cache { second: 15, ..with_use(1, 15) }, Cache { requests: 2048, ..cache }, Cache { held: MOST_HELD, ..cache }];
+        let sound = [
+            Cache { prices: Prices { hold: HIGHEST, transfer: 1 }, ..cache },
+            Cache { prices: Prices { hold: 1, transfer: HIGHEST }, ..cache },
+            Cache { prices: Prices { hold: 5, transfer: 25 }, ..with_use(0, 0) },
+            Cache { second: 15, ..with_use(1, 15) },
+            Cache { requests: 2048, ..cache },
+            Cache { held: MOST_HELD, ..cache },
+        ];
         for state in sound {
             assert!(!state.is_unsound(), "{state:?}");
         }

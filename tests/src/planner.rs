@@ -119,7 +119,7 @@ const NEVER: u64 = u64::MAX;
 /// The same with request i marked K.
 fn keep_cost(prices: Prices, points: &Points, before: &[u64], i: usize, r: usize) -> u64 {
     match points.previous[i] {
-        Some(p) => before[r.min(p)] + prices.hold * points.seconds(p, i),
+        Some(p) => before[r.min(p)] + prices.cost(points.seconds(p, i), 0),
         None => NEVER,
     }
 }
@@ -129,13 +129,12 @@ fn send_cost(prices: Prices, points: &Points, before: &[u64], i: usize, r: usize
     if !points.may_send(i) {
         return NEVER;
     }
-    let gap = if r < i { 0 } else { prices.hold * points.seconds(i - 1, i) };
-    before[r.min(i - 1)] + gap + prices.transfer
+    let gap = if r < i { 0 } else { points.seconds(i - 1, i) };
+    before[r.min(i - 1)] + prices.cost(gap, 1)
 }
 
 /// The plan: from the last request back, K where the least cost can be had with it.
-pub fn plan(log: &Log) -> Plan {
-    let prices = Prices::of(log.header.class);
+pub fn plan(prices: Prices, log: &Log) -> Plan {
     let points = points(log);
     let costs = table(prices, &points);
     let n = log.requests.len();
@@ -153,14 +152,13 @@ pub fn plan(log: &Log) -> Plan {
 }
 
 /// The least cost of the first 0, 1, .. and all requests.
-pub fn least(log: &Log) -> Vec<u64> {
-    let costs = table(Prices::of(log.header.class), &points(log));
+pub fn least(prices: Prices, log: &Log) -> Vec<u64> {
+    let costs = table(prices, &points(log));
     (0..costs.len()).map(|i| costs[i][i]).collect()
 }
 
 /// All allowed markings; of two, the one with K at the latest request where they differ comes first.
-pub fn all_markings(log: &Log) -> Vec<Plan> {
-    let prices = Prices::of(log.header.class);
+pub fn all_markings(prices: Prices, log: &Log) -> Vec<Plan> {
     let points = points(log);
     let n = log.requests.len();
     let mut plans = Vec::new();
@@ -180,9 +178,9 @@ pub fn all_markings(log: &Log) -> Vec<Plan> {
 }
 
 /// The plan by trying all of them.
-pub fn plan_by_all_markings(log: &Log) -> Plan {
+pub fn plan_by_all_markings(prices: Prices, log: &Log) -> Plan {
     // of equals, `min_by_key` takes the first
-    all_markings(log).into_iter().min_by_key(|plan| plan.cost).unwrap()
+    all_markings(prices, log).into_iter().min_by_key(|plan| plan.cost).unwrap()
 }
 
 /// A mark as one ASCII letter.
@@ -198,19 +196,21 @@ mod tests {
     use super::*;
     use crate::checker::{check, flat};
     use crate::log::{Header, Request};
-    use crate::random::{random_log, Random};
+    use crate::prices::each_class;
+    use crate::random::{random_header, random_log, random_requests, random_table, Random};
     use crate::search::{lists_of_gaps, least_by_sets};
 
     #[test]
     fn equals_all_markings_on_every_small_log() {
-        for class in 0..8 {
-            let window = Prices::of(class).window() as u32;
+        for (table, class) in each_class() {
+            let prices = table.of(class);
+            let window = prices.window() as u32;
             let mut gaps = vec![1, window.max(1), window + 1];
             gaps.dedup();
             for server_count in 1..=3 {
                 let header = Header { class, server_count, home: 0, id: [0; 16] };
                 for requests in lists_of_gaps(server_count, &gaps, 4) {
-                    agrees(&Log { header, requests });
+                    agrees(prices, &Log { header, requests });
                 }
             }
         }
@@ -220,29 +220,33 @@ mod tests {
     fn equals_all_markings_on_random_logs() {
         let mut random = Random::new(3);
         for _ in 0..3_000 {
-            agrees(&random_log(&mut random, 9));
+            let table = random_table(&mut random);
+            let log = random_log(&mut random, &table, 9);
+            agrees(table.of(log.header.class), &log);
         }
     }
 
-    fn agrees(log: &Log) {
-        let plan = plan(log);
-        assert_eq!(plan, plan_by_all_markings(log), "{log:?}");
-        assert_eq!(least(log), (0..=log.requests.len()).map(|k| plan_by_all_markings(&log.cut(k)).cost).collect::<Vec<_>>());
-        assert_eq!(check(log, &flat(&plan.rows)), Ok(plan.cost), "{log:?}");
+    fn agrees(prices: Prices, log: &Log) {
+        let plan = plan(prices, log);
+        assert_eq!(plan, plan_by_all_markings(prices, log), "{prices:?} {log:?}");
+        let costs: Vec<u64> = (0..=log.requests.len()).map(|k| plan_by_all_markings(prices, &log.cut(k)).cost).collect();
+        assert_eq!(least(prices, log), costs, "{prices:?} {log:?}");
+        assert_eq!(check(prices, log, &flat(&plan.rows)), Ok(plan.cost), "{prices:?} {log:?}");
     }
 
     #[test]
     fn no_schedule_is_cheaper() {
         let mut random = Random::new(4);
         for _ in 0..3_000 {
-            let class = random.one_of(&[0, 0, 1, 2, 3, 6]);
-            let server_count = random.between(1, 4) as u8;
-            let header = Header { class, server_count, home: random.below(server_count as u64) as u8, id: [0; 16] };
+            let table = random_table(&mut random);
+            let mut header = random_header(&mut random, &table);
+            header.server_count = header.server_count.min(4);
+            header.home %= header.server_count;
+            let prices = table.of(header.class);
             let count = random.below(9) as usize;
-            let requests: Vec<Request> = crate::random::random_requests(&mut random, &header, count);
-            let log = Log { header, requests };
+            let log = Log { header, requests: random_requests(&mut random, prices, &header, count) };
             if log.last_second() <= 300 {
-                assert_eq!(plan(&log).cost, least_by_sets(&log), "{log:?}");
+                assert_eq!(plan(prices, &log).cost, least_by_sets(prices, &log), "{prices:?} {log:?}");
             }
         }
     }
@@ -251,10 +255,12 @@ mod tests {
     fn long_plans_are_accepted() {
         let mut random = Random::new(5);
         for _ in 0..10 {
-            let log = random_log(&mut random, 400);
-            let plan = plan(&log);
-            assert_eq!(check(&log, &flat(&plan.rows)), Ok(plan.cost));
-            assert_eq!(least(&log).last(), Some(&plan.cost));
+            let table = random_table(&mut random);
+            let log = random_log(&mut random, &table, 400);
+            let prices = table.of(log.header.class);
+            let plan = plan(prices, &log);
+            assert_eq!(check(prices, &log, &flat(&plan.rows)), Ok(plan.cost));
+            assert_eq!(least(prices, &log).last(), Some(&plan.cost));
             assert!(plan.rows.len() <= 4096);
         }
     }
@@ -264,7 +270,7 @@ mod tests {
         // 002's recurrence would take K at the last request
         let header = Header { class: 0, server_count: 2, home: 0, id: [0; 16] };
         let requests = [(1, 1), (12, 1), (13, 0)].map(|(second, server)| Request { second, server }).to_vec();
-        let plan = plan(&Log { header, requests });
+        let plan = plan(Prices::of(0), &Log { header, requests });
         assert_eq!((plan.marks, plan.cost), (vec![Mark::S, Mark::K, Mark::S], 33));
     }
 }

@@ -1,7 +1,7 @@
 //! Seeded random inputs, valid and damaged.
 
 use crate::log::{sum, Header, Log, Request, LAST_SECOND, MOST_REQUESTS};
-use crate::prices::Prices;
+use crate::prices::{encode, Prices, Table, HIGHEST, MOST_CLASSES};
 
 /// The generator of Steele, Lea and Flood, "Fast splittable pseudorandom number generators" (SplitMix64).
 pub struct Random {
@@ -56,9 +56,85 @@ impl Random {
     }
 }
 
+/// Hold and transfer price: with a short window, with none, about the bounds, or any.
+pub fn random_pair(random: &mut Random) -> (u32, u32) {
+    let (hold, transfer) = match random.below(8) {
+        0 | 1 => {
+            let hold = random.between(1, 9);
+            (hold, hold * random.between(1, 40) + random.below(hold))
+        }
+        2 => {
+            let transfer = random.between(1, 30);
+            (transfer + random.between(1, 30), transfer)
+        }
+        3 => (random.one_of(&[1, 2, HIGHEST as u64 - 1, HIGHEST as u64]), random.one_of(&[1, 2, HIGHEST as u64 - 1, HIGHEST as u64])),
+        4 => (random.between(1, HIGHEST as u64), random.between(1, HIGHEST as u64)),
+        5 => (random.between(HIGHEST as u64 / 40, HIGHEST as u64), HIGHEST as u64),
+        _ => (random.between(1, 50), random.between(1, 3_000)),
+    };
+    (hold as u32, transfer as u32)
+}
+
+/// Prices for 1 to 256 classes.
+fn random_pairs(random: &mut Random) -> Vec<(u32, u32)> {
+    let count = match random.below(12) {
+        0 => MOST_CLASSES as u64,
+        1 => random.between(1, MOST_CLASSES as u64),
+        2 | 3 => 1,
+        _ => random.between(1, 12),
+    };
+    (0..count).map(|_| random_pair(random)).collect()
+}
+
+/// A table of a price file.
+pub fn random_prices(random: &mut Random) -> Table {
+    Table::of_pairs(&random_pairs(random))
+}
+
+/// The built-in table, or one of a price file.
+pub fn random_table(random: &mut Random) -> Table {
+    if random.once_in(2) {
+        return Table::built_in();
+    }
+    random_prices(random)
+}
+
+/// A price file with something wrong in it, most often one thing.
+pub fn damaged_prices(random: &mut Random) -> Vec<u8> {
+    let mut pairs = random_pairs(random);
+    let prices = random.one_of(&[0, 0, 0, 1, 1, 2]);
+    for _ in 0..prices {
+        let ends = [0, pairs.len() - 1, random.below(pairs.len() as u64) as usize];
+        let pair = &mut pairs[random.one_of(&ends)];
+        let price = if random.once_in(2) { &mut pair.0 } else { &mut pair.1 };
+        *price = random.one_of(&[0, HIGHEST + 1, 2 * HIGHEST, u32::MAX]);
+    }
+    let mut file = encode(&pairs);
+    if prices > 0 && !random.once_in(6) {
+        return file;
+    }
+    match random.below(8) {
+        0 => file.truncate(random.below(4) as usize),
+        1 => file.truncate(random.below(file.len() as u64) as usize),
+        2 => file.truncate(file.len() - random.one_of(&[1, 4, 8])),
+        3 => {
+            let length = random.one_of(&[1, 4, 8]);
+            file.extend(random.bytes(length));
+        }
+        4 => put(&mut file, 2, &random.one_of(&[0u16, 3, 5, 12, 0x0104, 0x0400, 0xffff]).to_le_bytes()),
+        5 => put(&mut file, 0, &random.one_of(&[0u16, 257, 0xffff]).to_le_bytes()),
+        6 => {
+            let shift = random.one_of(&[1u16, 2, 256, 0xffff]);
+            put(&mut file, 0, &(pairs.len() as u16).wrapping_add(shift).to_le_bytes());
+        }
+        _ => file = encode(&vec![pairs[0]; random.one_of(&[0, MOST_CLASSES + 1, MOST_CLASSES + 2])]),
+    }
+    file
+}
+
 /// A gap between two requests of at most `most` seconds; short ones and those about one window most often.
-pub fn random_gap(random: &mut Random, class: u8, most: u32) -> u32 {
-    let window = Prices::of(class).window();
+pub fn random_gap(random: &mut Random, prices: Prices, most: u32) -> u32 {
+    let window = prices.window();
     let gap = match random.below(8) {
         0 | 1 => random.between(1, 3),
         2 => random.between(window.max(2) - 1, window + 1),
@@ -71,7 +147,8 @@ pub fn random_gap(random: &mut Random, class: u8, most: u32) -> u32 {
     gap.min(most as u64) as u32
 }
 
-pub fn random_header(random: &mut Random) -> Header {
+/// A header of one of a table's classes.
+pub fn random_header(random: &mut Random, table: &Table) -> Header {
     let server_count = match random.below(8) {
         0 => 1,
         1 | 2 => 2,
@@ -81,7 +158,7 @@ pub fn random_header(random: &mut Random) -> Header {
         _ => random.between(2, 8) as u8,
     };
     let mut header = Header {
-        class: random.below(8) as u8,
+        class: random.below(table.classes() as u64) as u8,
         server_count,
         home: random.below(server_count as u64) as u8,
         id: [0; 16],
@@ -100,14 +177,14 @@ fn random_server(random: &mut Random, header: &Header, before: u16, few: u64) ->
     }
 }
 
-/// Requests that fit a header, as many as asked for.
-pub fn random_requests(random: &mut Random, header: &Header, count: usize) -> Vec<Request> {
+/// Requests that fit a header, as many as asked for, with gaps that fit its prices.
+pub fn random_requests(random: &mut Random, prices: Prices, header: &Header, count: usize) -> Vec<Request> {
     let few = random.between(1, header.server_count as u64);
     let (mut second, mut server) = (0, header.home as u16);
     let mut requests = Vec::new();
     let room = LAST_SECOND / count.max(1) as u32;
     for _ in 0..count {
-        second += random_gap(random, header.class, room);
+        second += random_gap(random, prices, room);
         server = random_server(random, header, server, few);
         requests.push(Request { second, server });
     }
@@ -117,27 +194,27 @@ pub fn random_requests(random: &mut Random, header: &Header, count: usize) -> Ve
     requests
 }
 
-/// A log that reading accepts, with at most `most` requests.
-pub fn random_log(random: &mut Random, most: usize) -> Log {
-    let header = random_header(random);
+/// A log that reading with a table accepts, with at most `most` requests.
+pub fn random_log(random: &mut Random, table: &Table, most: usize) -> Log {
+    let header = random_header(random, table);
     let count = match random.below(12) {
         0 => 0,
         1 => 1,
         2 => most,
         _ => random.between(0, most as u64) as usize,
     };
-    let requests = random_requests(random, &header, count);
+    let requests = random_requests(random, table.of(header.class), &header, count);
     Log { header, requests }
 }
 
 /// A log in a file with something wrong in it, most often one thing and with the sum made to fit.
-pub fn damaged_log(random: &mut Random) -> Vec<u8> {
+pub fn damaged_log(random: &mut Random, table: &Table) -> Vec<u8> {
     let most = random.one_of(&[1, 3, 6, 12]);
-    let log = random_log(random, most);
+    let log = random_log(random, table, most);
     let mut file = log.bytes();
     let times = random.one_of(&[1, 1, 1, 2, 3]);
     for _ in 0..times {
-        damage(random, &mut file);
+        damage(random, table, &mut file);
     }
     if file.len() >= 24 && !random.once_in(6) {
         let s = sum(&file);
@@ -152,7 +229,7 @@ fn put(file: &mut [u8], at: usize, bytes: &[u8]) {
     }
 }
 
-fn damage(random: &mut Random, file: &mut Vec<u8>) {
+fn damage(random: &mut Random, table: &Table, file: &mut Vec<u8>) {
     let requests = file.len().saturating_sub(40) / 6;
     let request = 40 + 6 * random.below(requests.max(1) as u64) as usize;
     match random.below(16) {
@@ -164,7 +241,7 @@ fn damage(random: &mut Random, file: &mut Vec<u8>) {
         }
         3 => put(file, 0, &random.one_of(&[0u16, 2, 256, 257, 0xffff]).to_le_bytes()),
         4 => {
-            let class = random.one_of(&[8, 9, 128, 255]);
+            let class = random.one_of(&[table.classes() as u8, table.classes() as u8, 128, 255]);
             put(file, 2, &[class]);
         }
         5 => {

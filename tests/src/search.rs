@@ -13,8 +13,7 @@ fn size(set: usize) -> u64 {
 
 /// The least cost by going through the seconds, for each set of servers the least cost at which just these
 /// hold over the next second. In a second the copy may be sent to any servers from those that hold it.
-pub fn least_by_sets(log: &Log) -> u64 {
-    let prices = Prices::of(log.header.class);
+pub fn least_by_sets(prices: Prices, log: &Log) -> u64 {
     let sets = 1usize << log.header.server_count;
     let mut holding = vec![NEVER; sets];
     holding[1 << log.header.home] = 0;
@@ -45,7 +44,7 @@ fn with_transfers(prices: Prices, holding: &[u64]) -> Vec<u64> {
         }
         for after in 1..holding.len() {
             if before & after == before {
-                standing[after] = standing[after].min(holding[before] + prices.transfer * size(after & !before));
+                standing[after] = standing[after].min(holding[before] + prices.cost(0, size(after & !before)));
             }
         }
     }
@@ -61,7 +60,7 @@ fn held_on(prices: Prices, standing: &[u64]) -> Vec<u64> {
         }
         for after in 0..standing.len() {
             if before & after == after {
-                holding[after] = holding[after].min(standing[before] + prices.hold * size(after));
+                holding[after] = holding[after].min(standing[before] + prices.cost(size(after), 0));
             }
         }
     }
@@ -139,6 +138,7 @@ mod tests {
     use super::*;
     use crate::checker;
     use crate::log::Header;
+    use crate::prices::each_class;
 
     #[test]
     fn number_of_lists() {
@@ -147,13 +147,15 @@ mod tests {
 
     #[test]
     fn both_searches_agree() {
-        for class in 0..8 {
+        for (table, class) in each_class() {
+            let prices = table.of(class);
             for home in 0..2 {
                 let header = Header { class, server_count: 2, home, id: [0; 16] };
                 for requests in lists_of_gaps(2, &[1, 2, 3], 3) {
                     let log = Log { header, requests };
                     if log.last_second() <= 2 || (log.last_second() == 3 && class % 6 == 0) {
-                        assert_eq!(least_by_schedules(&log, |rows| checker::check(&log, rows)), least_by_sets(&log), "{log:?}");
+                        let least = least_by_schedules(&log, |rows| checker::check(prices, &log, rows));
+                        assert_eq!(least, least_by_sets(prices, &log), "{prices:?} {log:?}");
                     }
                 }
             }

@@ -1,16 +1,16 @@
-//! 01, 'The sheet', with the last line of 02's request 02: what the program prints for any input.
+//! 01, 'The sheet', with the last line of 02's request 02 and the price file of its request 05: what the program prints for any input.
 
 use crate::log::{self, Log};
-use crate::online;
+use crate::online::Cache;
 use crate::planner::{self, letter};
+use crate::prices::{PriceFile, Prices, Table};
 use crate::Refusal;
 
 /// The sheet of a log.
-pub fn sheet(log: &Log) -> String {
-    let plan = planner::plan(log);
-    let least = planner::least(log);
-    let header = log.header;
-    let (mut cache, _) = online::start(header.class, header.server_count, header.home);
+pub fn sheet(prices: Prices, log: &Log) -> String {
+    let plan = planner::plan(prices, log);
+    let least = planner::least(prices, log);
+    let mut cache = Cache::fresh(prices, log.header.server_count, log.header.home);
     let mut text = String::from("scan second station plan live least bill\n");
     for (i, request) in log.requests.iter().enumerate() {
         let (next, served) = cache.scan(request.second, request.server);
@@ -33,10 +33,13 @@ pub fn refusal_line(refusal: Refusal) -> String {
     format!("refused {list} {} place {}\n", refusal.number, refusal.place)
 }
 
-/// What the program prints for an input.
-pub fn printed(input: &[u8]) -> String {
-    match log::read(input) {
-        Ok(log) => sheet(&log),
-        Err(refusal) => refusal_line(refusal),
-    }
+fn sheet_of(prices: PriceFile, input: &[u8]) -> Result<String, Refusal> {
+    let table = Table::read(prices)?;
+    let log = log::read(table.classes(), input)?;
+    Ok(sheet(table.of(log.header.class), &log))
+}
+
+/// What the program prints for a price file, or none, and an input.
+pub fn printed(prices: PriceFile, input: &[u8]) -> String {
+    sheet_of(prices, input).unwrap_or_else(refusal_line)
 }

@@ -33,6 +33,30 @@ running: 0 0 62 0
 close: 0 0 82 0
 close again: 33 0 0 0
 running still: 0 0 62 0
+write with: 0 0 64 0
+write with wrong: 38 1 0 0
+read with: 0 0 4 0
+read back: 1
+read with short: 37 0 0 0
+plan with: 0 0 84 4
+marks: SSKK
+plan with wrong: 38 1 0 0
+check with: 0 0 84 0
+check with nothing: 37 0 0 0
+least with: 0 0 5 0
+least 0: 0
+least 1: 22
+least 2: 44
+least 3: 62
+least 4: 84
+least with wrong: 38 1 0 0
+start with no such class: 3 0 0 0
+start with: 0 0 0 0
+prices: 2 20
+scan: 0 0 1 0
+running: 22
+close: 0 0 62 0
+close with a price above the highest: 32 0 0 0
 ";
 
 /// What c/calls.c prints, built by a compiler as a language and its standard.

@@ -26,6 +26,11 @@ fn made_up_states() {
 }
 
 #[test]
+fn price_bounds() {
+    online::price_bounds::<Library>();
+}
+
+#[test]
 fn full() {
     online::full::<Library>(14);
 }

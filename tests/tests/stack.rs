@@ -1,10 +1,11 @@
-//! How much stack the calls take, as include/caching.h says: each on a thread that has little more.
+//! How much stack the calls take, as include/caching.h says: each on a thread that has little more, without a price file and with the longest.
 
 mod library;
 
 use library::Library;
 use reference::calls::Calls;
 use reference::log::{Header, Log, Request};
+use reference::prices::{encode, HIGHEST};
 use std::thread::Builder;
 
 /// A call on a stack of so many bytes, those of the thread itself included: where they do not suffice, the system ends the test.
@@ -19,24 +20,35 @@ fn longest() -> Vec<u8> {
     Log { header, requests }.bytes()
 }
 
+/// The longest price file.
+fn prices() -> Vec<u8> {
+    encode(&[(1, HIGHEST); 256])
+}
+
 #[test]
 fn plan() {
     on(110_000, || {
-        assert!(Library::plan(&longest(), &mut vec![0; 2_048], &mut vec![0; 16_384]).is_ok());
+        for prices in [None, Some(&prices()[..])] {
+            assert!(Library::plan(prices, &longest(), &mut vec![0; 2_048], &mut vec![0; 16_384]).is_ok());
+        }
     });
 }
 
 #[test]
 fn least() {
     on(60_000, || {
-        assert_eq!(Library::least(&longest(), &mut vec![0; 2_049]), Ok(2_049));
+        for prices in [None, Some(&prices()[..])] {
+            assert_eq!(Library::least(prices, &longest(), &mut vec![0; 2_049]), Ok(2_049));
+        }
     });
 }
 
 #[test]
 fn check() {
     on(20_000, || {
-        assert!(Library::check(&longest(), &[0, 63, 0, 3_999_744]).is_err());
+        for prices in [None, Some(&prices()[..])] {
+            assert!(Library::check(prices, &longest(), &[0, 63, 0, 3_999_744]).is_err());
+        }
     });
 }
 
@@ -44,18 +56,22 @@ fn check() {
 fn read_and_write() {
     on(20_000, || {
         let (mut seconds, mut servers) = (vec![0; 2_048], vec![0; 2_048]);
-        let (header, count) = Library::read(&longest(), &mut seconds, &mut servers);
-        assert_eq!(count, Ok(2_048));
-        assert_eq!(Library::write(&header, &seconds, &servers, &mut vec![0; 12_328]), Ok(12_328));
+        for prices in [None, Some(&prices()[..])] {
+            let (header, count) = Library::read(prices, &longest(), &mut seconds, &mut servers);
+            assert_eq!(count, Ok(2_048));
+            assert_eq!(Library::write(prices, &header, &seconds, &servers, &mut vec![0; 12_328]), Ok(12_328));
+        }
     });
 }
 
 #[test]
 fn online() {
     on(20_000, || {
-        let (cache, _) = Library::start(7, 64, 63);
-        let (cache, served) = Library::scan(&cache, 1, 0);
-        assert!(served.is_ok());
-        assert!(Library::close(&cache).1.is_ok());
+        for prices in [None, Some(&prices()[..])] {
+            let (cache, _) = Library::start(prices, 7, 64, 63);
+            let (cache, served) = Library::scan(&cache, 1, 0);
+            assert!(served.is_ok());
+            assert!(Library::close(&cache).1.is_ok());
+        }
     });
 }

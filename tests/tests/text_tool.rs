@@ -1,4 +1,4 @@
-//! tools/log_from_text.py, run as a user would run it.
+//! tools/log_from_text.py and tools/prices_from_text.py, run as a user would run them.
 
 use std::io::Write;
 use std::path::{Path, PathBuf};
@@ -8,9 +8,9 @@ fn root() -> PathBuf {
     Path::new(env!("CARGO_MANIFEST_DIR")).join("..")
 }
 
-fn run(words: &[&str], text: &[u8]) -> Output {
+fn run(tool: &str, words: &[&str], text: &[u8]) -> Output {
     let mut child = Command::new("python3")
-        .arg(root().join("tools/log_from_text.py"))
+        .arg(root().join("tools").join(tool))
         .args(words)
         .stdin(Stdio::piped())
         .stdout(Stdio::piped())
@@ -24,15 +24,22 @@ fn run(words: &[&str], text: &[u8]) -> Output {
     child.wait_with_output().unwrap()
 }
 
-fn made(text: &[u8]) -> Vec<u8> {
-    let output = run(&["0", "4", "0", "week-b"], text);
+const LOGS: &str = "log_from_text.py";
+const PRICES: &str = "prices_from_text.py";
+
+fn written(tool: &str, words: &[&str], text: &[u8]) -> Vec<u8> {
+    let output = run(tool, words, text);
     assert!(output.status.success() && output.stderr.is_empty(), "{output:?}");
     output.stdout
 }
 
+fn made(text: &[u8]) -> Vec<u8> {
+    written(LOGS, &["0", "4", "0", "week-b"], text)
+}
+
 /// Nothing is written, and one line says what is wrong.
-fn refused(words: &[&str], text: &[u8], message: &str) {
-    let output = run(words, text);
+fn refused(tool: &str, words: &[&str], text: &[u8], message: &str) {
+    let output = run(tool, words, text);
     assert_eq!(output.status.code(), Some(1));
     assert!(output.stdout.is_empty(), "{output:?}");
     assert_eq!(String::from_utf8(output.stderr).unwrap(), format!("{message}\n"));
@@ -66,14 +73,37 @@ fn wrong_lines() {
         (b"5 1\n8 65536\n", "line 2, station: 65536 is above 65535"),
     ];
     for (text, message) in cases {
-        refused(&["0", "4", "0"], text, message);
+        refused(LOGS, &["0", "4", "0"], text, message);
     }
 }
 
 #[test]
 fn wrong_words() {
-    refused(&["256", "4", "0"], b"", "CLASS: 256 is above 255");
-    refused(&["0", "four", "0"], b"", "STATIONS: a whole number is wanted, not 'four'");
-    refused(&["0", "4", "-1"], b"", "HOME: a whole number is wanted, not '-1'");
-    refused(&["0", "4", "0", "seventeen letters"], b"", "ID: more than 16 bytes");
+    refused(LOGS, &["256", "4", "0"], b"", "CLASS: 256 is above 255");
+    refused(LOGS, &["0", "four", "0"], b"", "STATIONS: a whole number is wanted, not 'four'");
+    refused(LOGS, &["0", "4", "-1"], b"", "HOME: a whole number is wanted, not '-1'");
+    refused(LOGS, &["0", "4", "0", "seventeen letters"], b"", "ID: more than 16 bytes");
+}
+
+#[test]
+fn the_sample_prices() {
+    let text = std::fs::read(root().join("samples/prices.txt")).unwrap();
+    let file = written(PRICES, &[], &text);
+    assert_eq!(file, std::fs::read(root().join("samples/built-in.prices")).unwrap());
+    assert_eq!(file.len(), 4 + 8 * 8);
+    assert_eq!(&file[..12], &[8, 0, 4, 0, 1, 0, 0, 0, 10, 0, 0, 0]);
+}
+
+#[test]
+fn wrong_prices() {
+    let two = "line 1: two numbers are wanted, a keep price and a send price";
+    let cases: [(&[u8], &str); 4] = [
+        (b"5\n", two),
+        (b"5 6 7\n", two),
+        (b"5 six\n", "line 1, send price: a whole number is wanted, not 'six'"),
+        (b"4294967296 1\n", "line 1, keep price: 4294967296 is above 4294967295"),
+    ];
+    for (text, message) in cases {
+        refused(PRICES, &[], text, message);
+    }
 }

@@ -12,7 +12,7 @@ use Rattle.model.specs.Requests.{Requests}
 use Rattle.model.specs.Marking.{Mark, K, S, keeps}
 use Rattle.online.specs.declared.Cache.{Cache}
 use Rattle.online.specs.ServerLaws.{across-same, has-set}
-use Rattle.online.specs.Rules.{class-prices, window-of, copy-at, use-at, lasts, kept, uses, stands, next-use, seconds, accept, remaining}
+use Rattle.online.specs.Rules.{window-of, copy-at, use-at, lasts, kept, uses, stands, next-use, seconds, accept, remaining}
 use Rattle.online.specs.ClosingLaws.{remaining-none, remaining-at}
 use Rattle.bounds.specs.History.{last-use, mark, held, transfers}
 use Rattle.bounds.specs.History as history
@@ -155,7 +155,7 @@ remaining-left W q c i a y h = go (a .seen y h)
 -- the next state agrees with one request more
 pub agrees-next : (W : ℕ) (q : Requests) (c : Cache) (i : ℕ) → Agrees W q c i → q .time i < q .time (suc i) → q .server (suc i) < 64
     → Agrees W q (accept c (q .time (suc i)) (q .server (suc i))) (suc i)
-unfolding accept window-of class-prices copy-at use-at keeps
+unfolding accept window-of copy-at use-at keeps
 agrees-next W q c i a up r =
     record {
       window-is = a .window-is;

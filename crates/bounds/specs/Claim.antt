@@ -8,7 +8,7 @@ use lib.ListN.{length}
 use Rattle.base.specs.declared.Refusal.{Refusal}
 use Rattle.base.specs.declared.Verdict.the-variants.{Refused}
 use Rattle.prices.specs.declared.Prices.{Prices}
-use Rattle.prices.specs.Prices.{classes, prices-of, window}
+use Rattle.prices.specs.Prices.{prices-of, window}
 use Rattle.log.specs.declared.Setup.{Setup}
 use Rattle.model.specs.Requests.{Requests, Rising, Within}
 use Rattle.model.specs.Plan.{plan-cost}
@@ -21,11 +21,11 @@ use Rattle.bounds.specs.Progress.{begun, dues, taken, progress}
 use Rattle.bounds.specs.History.{held, transfers}
 use Rattle.bounds.specs.History as history
 
--- what a start was given, the state that it gave back, and a list of calls after it
-module _ (s : Setup) (first : Cache) (calls : List Call) where
+-- the table and what else a start was given, the state that it gave back, and a list of calls after it
+module _ (table : List Prices) (s : Setup) (first : Cache) (calls : List Call) where
   -- the prices of the class
   abbrev pub prices : Prices
-  prices = prices-of classes (s .«class»)
+  prices = prices-of table (s .«class»)
 
   -- the state last given back
   abbrev pub final : Cache
@@ -47,7 +47,7 @@ module _ (s : Setup) (first : Cache) (calls : List Call) where
     pub unbroken : broken final ≡ false
     pub rising : Rising served served-count
     pub within : Within (s .«server_count») served served-count
-    pub class-is : final .«class» ≡ s .«class»
+    pub prices-are : final .prices ≡ prices
     pub count-is : final .«server_count» ≡ s .«server_count»
     pub last-is : final .last ≡ served .server served-count
     pub second-is : final .second ≡ served .time served-count

@@ -1,12 +1,13 @@
--- The claim holds of every list of scan and close calls from a fresh state.
+-- The claim holds of every list of scan and close calls from a fresh state, for all prices in range.
 use mathlib.Core.List.{List, []}
 use mathlib.Core.Path.{_≡_, refl, ap, ap₂, _∙_}
 use native.Mathlib.Omega.{arith}
-use Prim.Native.Nat.{ℕ, _+_, _*_, _≤_}
+use Prim.Native.Nat.{ℕ, _+_, _*_}
 use Rattle.prices.specs.declared.Prices.{Prices}
-use Rattle.prices.specs.Prices.{classes, prices-of, window}
-use Rattle.prices.specs.PriceLaws.{classes-ranged}
+use Rattle.prices.specs.Prices.{prices-of, window}
+use Rattle.prices.specs.PriceLaws.{In-range}
 use Rattle.log.specs.declared.Setup.{Setup}
+use Rattle.log.specs.Ranges.{Allowed}
 use Rattle.model.specs.Requests.{Requests, requests, Within}
 use Rattle.model.specs.Plan.{plan-cost}
 use Rattle.model.specs.PlanLaws.{plan-best}
@@ -14,10 +15,9 @@ use Rattle.model.specs.PlanLeast.{plan-least}
 use Rattle.online.specs.declared.Cache.{Cache}
 use Rattle.online.specs.Servers.{across}
 use Rattle.online.specs.ServerLaws.{across-same}
-use Rattle.online.specs.Rules.{class-prices, fresh, running, remaining, closing}
+use Rattle.online.specs.Rules.{fresh, running, remaining, closing}
 use Rattle.online.specs.ClosingLaws.{closing-more}
 use Rattle.online.specs.Intact.{intact-unbroken}
-use Rattle.online.specs.Passed.{Startable}
 use Rattle.bounds.specs.Calls.{Call, run, requests-of}
 use Rattle.bounds.specs.Progress.{begun, taken, progress}
 use Rattle.bounds.specs.ProgressLaws as progress-laws
@@ -31,69 +31,65 @@ use Rattle.bounds.specs.Reached.{reached-fresh, reached-intact}
 use Rattle.bounds.specs.Onward.{Along, Led, onward}
 use Rattle.bounds.specs.Claim.{Claim, served, served-count}
 
-module _ (s : Setup) (k : Startable s) (calls : List Call) where
+module _ (table : List Prices) (s : Setup) (k : Allowed s) (range : In-range (prices-of table (s .«class»))) (calls : List Call) where
   -- in short
   abbrev p : Prices
-  p = prices-of classes (s .«class»)
+  p = prices-of table (s .«class»)
 
   abbrev c : Cache
-  c = run (fresh s) calls
+  c = run (fresh table s) calls
 
   abbrev q : Requests
-  q = served s (fresh s) calls
+  q = served table s (fresh table s) calls
 
   abbrev n : ℕ
-  n = served-count s (fresh s) calls
+  n = served-count table s (fresh table s) calls
 
   -- where the calls lead
-  led : Led s k q calls (fresh s) begun n
+  led : Led table s k range q calls (fresh table s) begun n
   unfolding requests-of requests fresh begun
   led =
-      onward s k q calls (fresh s) begun 0 n
-      (record { reached = reached-fresh s k q refl refl; second-is = refl; taken-is = refl; closed-is = refl })
+      onward table s k range q calls (fresh table s) begun 0 n
+      (record { reached = reached-fresh table s k q refl refl; second-is = refl; taken-is = refl; closed-is = refl })
       (follows-of (s .home) (taken (s .«server_count») begun calls)) (omega arith)
 
-  end : Along s k q c (progress (s .«server_count») begun calls) n
+  end : Along table s k range q c (progress (s .«server_count») begun calls) n
   end = led .along
 
   -- the running cost is that of the history
   running-is : running c ≡ running-cost p q 64 n
-  unfolding running class-prices running-cost
+  unfolding running running-cost
   running-is =
       let r = end .reached in
-      ap (λ (x : ℕ). prices-of classes x .hold * c .held + prices-of classes x .transfer * c .transfers) (r .class-is)
+      ap (λ (x : Prices). x .hold * c .held + x .transfer * c .transfers) (r .prices-are)
       ∙ ap (λ (x : ℕ). p .hold * x + p .transfer * c .transfers) (r .agrees .held-are)
       ∙ ap (λ (x : ℕ). p .hold * held (window p) q 64 n + p .transfer * x) (r .agrees .transfers-are)
-
-  -- holding has a price
-  holding : 1 ≤ p .hold
-  holding = classes-ranged (s .«class») (k .0) .hold-least
 
   -- all servers are below 64
   within-64 : Within 64 q n
   unfolding Within
-  within-64 i h = omega (arith, end .reached .within i h, k .1 .servers-most)
+  within-64 i h = omega (arith, end .reached .within i h, k .servers-most)
 
   -- so is the closing cost
   closing-is : closing c ≡ closing-cost p q 64 n
-  unfolding closing class-prices closing-cost
+  unfolding closing closing-cost
   closing-is =
       let r = end .reached in
       ap₂ (λ (x y : ℕ). x + y) running-is
-      (ap (λ (x : ℕ). prices-of classes x .hold * across 64 (remaining c)) (r .class-is)
+      (ap (λ (x : Prices). x .hold * across 64 (remaining c)) (r .prices-are)
       ∙ ap (λ (x : ℕ). p .hold * x) (across-same 64 (remaining c) (history.remaining (window p) q n) (remaining-left (window p) q c n (r .agrees))))
 
   -- every list of calls from a fresh state is as claimed
-  pub claim : Claim s (fresh s) calls
+  pub claim : Claim table s (fresh table s) calls
   claim =
       let r = end .reached in
       record {
         refused = led .refused;
         never-32 = λ x m. progress-laws.never-32 (s .«server_count») begun calls x (rw (led .refused) at m);
-        unbroken = intact-unbroken c (reached-intact s k q c n r);
+        unbroken = intact-unbroken c (reached-intact table s k range q c n r);
         rising = r .rising;
         within = r .within;
-        class-is = r .class-is;
+        prices-are = r .prices-are;
         count-is = r .count-is;
         last-is = r .agrees .last-is;
         second-is = r .agrees .second-is;
@@ -111,7 +107,7 @@ module _ (s : Setup) (k : Startable s) (calls : List Call) where
               arith,
               running-is,
               plan-best p q n,
-              within-three p q 64 n holding (r .rising) within-64,
+              within-three p q 64 n (range .hold-least) (r .rising) within-64,
             );
         closing-no-less = closing-more c;
         closing-no-more =
@@ -119,13 +115,14 @@ module _ (s : Setup) (k : Startable s) (calls : List Call) where
               arith,
               closing-is,
               plan-best p q n,
-              closing-within p q 64 n holding (r .rising) within-64,
+              closing-within p q 64 n (range .hold-least) (r .rising) within-64,
             );
       }
 
 -- the closing cost of a fresh state is the holding of one window
-pub closing-fresh : (s : Setup) → Startable s → closing (fresh s) ≡ prices-of classes (s .«class») .hold * window (prices-of classes (s .«class»))
+pub closing-fresh : (table : List Prices) (s : Setup) → Allowed s → In-range (prices-of table (s .«class»))
+    → closing (fresh table s) ≡ prices-of table (s .«class») .hold * window (prices-of table (s .«class»))
 unfolding run taken requests-of requests
-closing-fresh s k =
-    closing-is s k []
-    ∙ closing-zero (prices-of classes (s .«class»)) (requests-of (s .home) []) 64 refl (omega (arith, k .1 .home-below, k .1 .servers-most))
+closing-fresh table s k range =
+    closing-is table s k range []
+    ∙ closing-zero (prices-of table (s .«class»)) (requests-of (s .home) []) 64 refl (omega (arith, k .home-below, k .servers-most))

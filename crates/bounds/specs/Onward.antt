@@ -6,12 +6,15 @@ use Prim.Native.Nat.{ℕ, suc, _+_}
 use lib.ListN.{length}
 use Rattle.base.specs.declared.Verdict.{Verdict}
 use Rattle.base.specs.declared.Verdict.the-variants.{Passed, Refused}
+use Rattle.prices.specs.declared.Prices.{Prices}
+use Rattle.prices.specs.Prices.{prices-of}
+use Rattle.prices.specs.PriceLaws.{In-range}
 use Rattle.log.specs.declared.Setup.{Setup}
+use Rattle.log.specs.Ranges.{Allowed}
 use Rattle.model.specs.Requests.{Requests}
 use Rattle.online.specs.declared.Cache.{Cache}
 use Rattle.online.specs.Rules.{accept, shut}
 use Rattle.online.specs.Intact.{intact-unbroken}
-use Rattle.online.specs.Passed.{Startable}
 use Rattle.bounds.specs.Calls.{Call, scan, close, verdict, after, run, verdicts}
 use Rattle.bounds.specs.CallLaws.{after-scan, after-close, after-refused}
 use Rattle.bounds.specs.Progress.{Progress, due, advanced, with-request, dues, taken, progress}
@@ -19,13 +22,13 @@ use Rattle.bounds.specs.ProgressLaws.{In-pace, verdict-due}
 use Rattle.bounds.specs.Follows.{Follows}
 use Rattle.bounds.specs.Reached.{Reached, reached-scan, reached-shut, reached-intact}
 
-module _ (s : Setup) (k : Startable s) (q : Requests) where
+module _ (table : List Prices) (s : Setup) (k : Allowed s) (range : In-range (prices-of table (s .«class»))) (q : Requests) where
   abbrev count : ℕ
   count = s .«server_count»
 
   -- a state and the progress so far are those of the first i requests
   pub record Along (c : Cache) (p : Progress) (i : ℕ) : Type 0 where
-    pub reached : Reached s q c i
+    pub reached : Reached table s q c i
     pub second-is : p .second ≡ q .time i
     pub taken-is : p .taken ≡ i
     pub closed-is : c .closed ≡ p .closed
@@ -38,7 +41,7 @@ module _ (s : Setup) (k : Startable s) (q : Requests) where
         second-is = a .reached .agrees .second-is ∙ sym (a .second-is);
         requests-are = a .reached .agrees .requests-are ∙ sym (a .taken-is);
         closed-is = a .closed-is;
-        unbroken = intact-unbroken c (reached-intact s k q c i (a .reached));
+        unbroken = intact-unbroken c (reached-intact table s k range q c i (a .reached));
       }
 
   -- what some calls lead to: n requests in all, each call refused as the calls alone say
@@ -59,7 +62,7 @@ module _ (s : Setup) (k : Startable s) (q : Requests) where
       rw (after-scan c τ x e)
       (ih (accept c τ x) (advanced Passed (scan τ x) p) (suc i) n
       (record {
-        reached = reached-scan s q c i τ x (a .reached) e (f .0) (f .1);
+        reached = reached-scan table s q c i τ x (a .reached) e (f .0) (f .1);
         second-is = sym (f .0);
         taken-is = ap suc (a .taken-is);
         closed-is = a .closed-is;
@@ -68,7 +71,7 @@ module _ (s : Setup) (k : Startable s) (q : Requests) where
       rw (after-close c e)
       (ih (shut c) (advanced Passed close p) i n
       (record {
-        reached = reached-shut s q c i (a .reached);
+        reached = reached-shut table s q c i (a .reached);
         second-is = a .second-is;
         taken-is = a .taken-is;
         closed-is = refl;

@@ -1,5 +1,6 @@
 -- The states that requests lead to from a fresh one: each agrees with the history of the requests, and 32 does not hold.
 use mathlib.Core.Bool.{true}
+use mathlib.Core.List.{List}
 use mathlib.Core.Logic.{_⊎_, inl, inr, _≢_}
 use mathlib.Core.Option.{some}
 use mathlib.Core.Path.{_≡_, refl, sym, ap, _∙_}
@@ -12,38 +13,41 @@ use Rattle.base.specs.Choice.{same-or-not, not-both}
 use Rattle.base.specs.Lists.{build, build-at}
 use Rattle.base.specs.Sets.{has}
 use Rattle.base.specs.declared.Verdict.the-variants.{Passed}
-use Rattle.prices.specs.Prices.{classes, prices-of, window}
+use Rattle.prices.specs.declared.Prices.{Prices}
+use Rattle.prices.specs.Prices.{prices-of, window}
+use Rattle.prices.specs.PriceLaws.{In-range}
 use Rattle.log.specs.declared.Setup.{Setup}
+use Rattle.log.specs.Ranges.{Allowed}
 use Rattle.model.specs.Requests.{Requests, latest, Rising, Within}
 use Rattle.model.specs.RequestLaws.{none-some, latest-some}
 use Rattle.online.specs.declared.Cache.{Cache}
 use Rattle.online.specs.Servers.{set-of}
 use Rattle.online.specs.ServerLaws.{has-set}
-use Rattle.online.specs.Rules.{class-prices, window-of, copy-at, use-at, fresh, accept, shut}
+use Rattle.online.specs.Rules.{window-of, copy-at, use-at, fresh, accept, shut}
 use Rattle.bounds.specs.History.{last-use}
 use Rattle.bounds.specs.HistoryLaws.{use-last, use-none, Link, never, since, link, transfers-most}
 use Rattle.bounds.specs.Seconds.{held-zero, held-most}
 use Rattle.bounds.specs.Agreement.{Seen, gone, here, Agrees, agrees-next}
 use Rattle.online.specs.Intact.{Intact, Intact-server}
 use Rattle.online.specs.Answers.{scan-verdict}
-use Rattle.online.specs.Passed.{Startable, Fit, scan-passed}
+use Rattle.online.specs.Passed.{Fit, scan-passed}
 
--- the state after the first i of some requests, of a start that was given s
-pub record Reached (s : Setup) (q : Requests) (c : Cache) (i : ℕ) : Type 0 where
-  pub class-is : c .«class» ≡ s .«class»
+-- the state after the first i of some requests, of a start that was given a table and s
+pub record Reached (table : List Prices) (s : Setup) (q : Requests) (c : Cache) (i : ℕ) : Type 0 where
+  pub prices-are : c .prices ≡ prices-of table (s .«class»)
   pub count-is : c .«server_count» ≡ s .«server_count»
-  pub agrees : Agrees (window (prices-of classes (s .«class»))) q c i
+  pub agrees : Agrees (window (prices-of table (s .«class»))) q c i
   pub second-most : q .time i ≤ 4000000
   pub few : i ≤ 2048
   pub rising : Rising q i
   pub within : Within (s .«server_count») q i
 
 -- a start reaches it
-pub reached-fresh : (s : Setup) → Startable s → (q : Requests) → q .time 0 ≡ 0 → q .server 0 ≡ s .home → Reached s q (fresh s) 0
-unfolding fresh Within copy-at use-at window-of class-prices
-reached-fresh s k q z e =
+pub reached-fresh : (table : List Prices) (s : Setup) → Allowed s → (q : Requests) → q .time 0 ≡ 0 → q .server 0 ≡ s .home → Reached table s q (fresh table s) 0
+unfolding fresh Within copy-at use-at window-of
+reached-fresh table s k q z e =
     record {
-      class-is = refl;
+      prices-are = refl;
       count-is = refl;
       agrees =
           record {
@@ -58,11 +62,11 @@ reached-fresh s k q z e =
       second-most = omega arith;
       few = omega arith;
       rising = record { start = z; rise = λ i h. absurd (omega arith) };
-      within = λ i h. let o : i ≡ 0 = omega arith in rw (o, e) (k .1 .home-below);
+      within = λ i h. let o : i ≡ 0 = omega arith in rw (o, e) (k .home-below);
     }
   where
     W : ℕ
-    W = window (prices-of classes (s .«class»))
+    W = window (prices-of table (s .«class»))
 
     at : (y : ℕ) → (y ≡ s .home) ⊎ (y ≢ s .home) → Seen W q (eqb y (s .home)) 0 0 y
     at y (inl d) = here (eq-eqb y (s .home) d) (ap (last-use W q 0) (d ∙ sym e) ∙ use-last W q 0 ∙ ap some z) (omega arith) (omega arith)
@@ -72,14 +76,14 @@ reached-fresh s k q z e =
     seen y h = rw (has-set 64 (λ y. eqb y (s .home)) y h, build-at {A = ℕ} 64 (λ y. 0) y 0 h) (at y (same-or-not y (s .home)))
 
 -- one request more
-reached-next : (s : Setup) (q : Requests) (c : Cache) (i : ℕ) → Reached s q c i → Fit c (q .time (suc i)) (q .server (suc i))
-    → Reached s q (accept c (q .time (suc i)) (q .server (suc i))) (suc i)
+reached-next : (table : List Prices) (s : Setup) (q : Requests) (c : Cache) (i : ℕ) → Reached table s q c i → Fit c (q .time (suc i)) (q .server (suc i))
+    → Reached table s q (accept c (q .time (suc i)) (q .server (suc i))) (suc i)
 unfolding accept Within
-reached-next s q c i r f =
+reached-next table s q c i r f =
     record {
-      class-is = r .class-is;
+      prices-are = r .prices-are;
       count-is = r .count-is;
-      agrees = agrees-next (window (prices-of classes (s .«class»))) q c i (r .agrees) up (omega (arith, f .counted, f .intact .count-most));
+      agrees = agrees-next (window (prices-of table (s .«class»))) q c i (r .agrees) up (omega (arith, f .counted, f .intact .count-most));
       second-most = f .second-most;
       few = omega (arith, f .room, r .agrees .requests-are);
       rising = record { start = r .rising .start; rise = λ l h. rise l h (same-or-not l i) };
@@ -98,17 +102,17 @@ reached-next s q c i r f =
     below l h (inr e) = r .within l (omega arith)
 
 -- the request at a second and a server whose scan is not refused
-pub reached-scan : (s : Setup) (q : Requests) (c : Cache) (i second server : ℕ) → Reached s q c i → scan-verdict c second server ≡ Passed
-    → q .time (suc i) ≡ second → q .server (suc i) ≡ server → Reached s q (accept c second server) (suc i)
-reached-scan s q c i second server r e t x = rw (← t, ← x) (reached-next s q c i r (rw (t, x) (scan-passed c second server e)))
+pub reached-scan : (table : List Prices) (s : Setup) (q : Requests) (c : Cache) (i second server : ℕ) → Reached table s q c i → scan-verdict c second server ≡ Passed
+    → q .time (suc i) ≡ second → q .server (suc i) ≡ server → Reached table s q (accept c second server) (suc i)
+reached-scan table s q c i second server r e t x = rw (← t, ← x) (reached-next table s q c i r (rw (t, x) (scan-passed c second server e)))
 
 -- the close
-pub reached-shut : (s : Setup) (q : Requests) (c : Cache) (i : ℕ) → Reached s q c i → Reached s q (shut c) i
-unfolding shut window-of class-prices copy-at use-at
-reached-shut s q c i r =
+pub reached-shut : (table : List Prices) (s : Setup) (q : Requests) (c : Cache) (i : ℕ) → Reached table s q c i → Reached table s q (shut c) i
+unfolding shut window-of copy-at use-at
+reached-shut table s q c i r =
     let a = r .agrees in
     record {
-      class-is = r .class-is;
+      prices-are = r .prices-are;
       count-is = r .count-is;
       agrees =
           record {
@@ -127,13 +131,14 @@ reached-shut s q c i r =
     }
 
 -- 32 does not hold of it
-pub reached-intact : (s : Setup) → Startable s → (q : Requests) (c : Cache) (i : ℕ) → Reached s q c i → Intact c
-unfolding Within classes
-reached-intact s k q c i r =
+pub reached-intact : (table : List Prices) (s : Setup) → Allowed s → In-range (prices-of table (s .«class»)) → (q : Requests) (c : Cache) (i : ℕ)
+    → Reached table s q c i → Intact c
+unfolding Within
+reached-intact table s k p q c i r =
     record {
-      class-in = omega (arith, r .class-is, k .0);
-      count-least = omega (arith, r .count-is, k .1 .servers-least);
-      count-most = omega (arith, r .count-is, k .1 .servers-most);
+      priced = rw (r .prices-are) p;
+      count-least = omega (arith, r .count-is, k .servers-least);
+      count-most = omega (arith, r .count-is, k .servers-most);
       second-most = omega (arith, a .second-is, r .second-most);
       last-counted = omega (arith, a .last-is, r .count-is, r .within i (omega arith));
       last-stands = last-seen (a .seen (c .last) last-under) .0;
@@ -145,13 +150,13 @@ reached-intact s k q c i r =
     }
   where
     W : ℕ
-    W = window (prices-of classes (s .«class»))
+    W = window (prices-of table (s .«class»))
 
     a : Agrees W q c i
     a = r .agrees
 
     last-under : c .last < 64
-    last-under = omega (arith, a .last-is, r .within i (omega arith), k .1 .servers-most)
+    last-under = omega (arith, a .last-is, r .within i (omega arith), k .servers-most)
 
     used : last-use W q i (c .last) ≡ some (q .time i)
     used = ap (last-use W q i) (a .last-is) ∙ use-last W q i

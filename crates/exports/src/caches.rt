@@ -1,5 +1,6 @@
 // The online cache: a state goes in and comes back by value.
 ghost use mathlib.Core.Path.{_≡_};
+ghost use Rattle.prices.specs.Tariff.{built-in, price-file};
 ghost use Rattle.online.specs.Answers.{started, scanned, running-answer, closed-answer};
 ghost use Rattle.exports.specs.Answers.{given, of-start, of-scan, running-of, of-running, of-close, start-answer, scan-answer, close-answer};
 use crate::Answer;
@@ -12,6 +13,7 @@ use online::CloseOutcome;
 use online::RunningCost;
 use online::ScanOutcome;
 use online::StartOutcome;
+use online::Started;
 
 #[repr(C)]
 pub struct CacheAnswer {
@@ -36,22 +38,45 @@ fn of_start(outcome: StartOutcome) -> Answer
     }
 }
 
-#[no_mangle]
-pub extern "C" fn caching_start(class: u8, server_count: u8, home: u8) -> CacheAnswer
-    ensures { λ r. ⌜ r ≡ start-answer (started (given class «server_count» home)) ⌝ }
+// What a start is given beside its prices.
+fn given(class: u8, server_count: u8, home: u8) -> Setup
+    ensures { λ r. ⌜ r ≡ given class «server_count» home ⌝ }
 {
-    let setup = Setup {
+    Setup {
         class,
         server_count,
         home,
-    };
-    let started = Cache::start(setup);
+    }
+}
+
+fn start_answer(started: Started) -> CacheAnswer
+    ensures { λ r. ⌜ r ≡ start-answer started ⌝ }
+{
     let cache = started.cache;
     let outcome = started.outcome;
     CacheAnswer {
         cache,
         answer: of_start(outcome),
     }
+}
+
+#[no_mangle]
+pub extern "C" fn caching_start(class: u8, server_count: u8, home: u8) -> CacheAnswer
+    ensures { λ r. ⌜ r ≡ start-answer (started built-in (given class «server_count» home)) ⌝ }
+{
+    start_answer(Cache::start(given(class, server_count, home)))
+}
+
+#[no_mangle]
+pub extern "C" fn caching_start_with(
+    prices: &[u8],
+    class: u8,
+    server_count: u8,
+    home: u8,
+) -> CacheAnswer
+    ensures { λ r. ⌜ r ≡ start-answer (started (price-file (now (prices .entry))) (given class «server_count» home)) ⌝ }
+{
+    start_answer(Cache::start_with(prices, given(class, server_count, home)))
 }
 
 // Value 0: kept; value 1: sent, and the source.

@@ -1,6 +1,6 @@
 // What programs in other languages link: the calls of log, checker, planner and online on numbers, slices and `#[repr(C)]` structs
 // (include/caching.h). None requires anything.
-// A slice crosses as a pointer and then a length, each an argument of its own.
+// Each call that needs prices has a form with a price file, `.._with`, whose bytes come first. A slice crosses as a pointer and then a length, each an argument of its own.
 mod caches;
 mod logs;
 mod schedules;

@@ -1,7 +1,7 @@
 // Sum, reader and writer.
 ghost use mathlib.Core.Path.{_≡_};
 ghost use lib.ListN.{length};
-ghost use Rattle.prices.specs.Tariff.{built-in};
+ghost use Rattle.prices.specs.Tariff.{built-in, price-file};
 ghost use Rattle.log.specs.Sum.{sum-of};
 ghost use Rattle.log.specs.Contents.{contents};
 ghost use Rattle.log.specs.Answers.{read-verdict, decoded, seconds-left, servers-left, write-verdict, written, log-left};
@@ -52,6 +52,26 @@ pub extern "C" fn caching_read(log: &[u8], seconds: &mut [u32], servers: &mut [u
     }
 }
 
+#[no_mangle]
+pub extern "C" fn caching_read_with(
+    prices: &[u8],
+    log: &[u8],
+    seconds: &mut [u32],
+    servers: &mut [u16],
+) -> ReadAnswer
+    ensures { λ r. ⌜ r ≡ read-answer (decoded (read-verdict (price-file (now (prices .entry))) (now (log .entry)) (length (now (seconds .entry))) (length (now (servers .entry)))) (now (log .entry))) ⌝ }
+    ensures { λ _. ⌜ now (seconds .exit) ≡ seconds-left (price-file (now (prices .entry))) (now (log .entry)) (now (seconds .entry)) (now (servers .entry)) ⌝ }
+    ensures { λ _. ⌜ now (servers .exit) ≡ servers-left (price-file (now (prices .entry))) (now (log .entry)) (now (seconds .entry)) (now (servers .entry)) ⌝ }
+{
+    let d = log::read_with(prices, log, seconds, servers);
+    let header = d.header;
+    let outcome = d.outcome;
+    ReadAnswer {
+        header,
+        answer: of_read(outcome),
+    }
+}
+
 fn of_write(outcome: Written) -> Answer
     ensures { λ r. ⌜ r ≡ of-write outcome ⌝ }
 {
@@ -73,4 +93,19 @@ pub extern "C" fn caching_write(
     ensures { λ _. ⌜ now (log .exit) ≡ log-left built-in (contents header (now (seconds .entry)) (now (servers .entry))) (now (log .entry)) ⌝ }
 {
     of_write(log::write(header, seconds, servers, log))
+}
+
+// The answer's value is the log's length.
+#[no_mangle]
+pub extern "C" fn caching_write_with(
+    prices: &[u8],
+    header: Header,
+    seconds: &[u32],
+    servers: &[u16],
+    log: &mut [u8],
+) -> Answer
+    ensures { λ r. ⌜ r ≡ of-write (written (write-verdict (price-file (now (prices .entry))) (contents header (now (seconds .entry)) (now (servers .entry))) (length (now (log .entry)))) (contents header (now (seconds .entry)) (now (servers .entry)))) ⌝ }
+    ensures { λ _. ⌜ now (log .exit) ≡ log-left (price-file (now (prices .entry))) (contents header (now (seconds .entry)) (now (servers .entry))) (now (log .entry)) ⌝ }
+{
+    of_write(log::write_with(prices, header, seconds, servers, log))
 }

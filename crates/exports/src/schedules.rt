@@ -1,7 +1,7 @@
 // Checker, planner and least costs.
 ghost use mathlib.Core.Path.{_≡_};
 ghost use lib.ListN.{length};
-ghost use Rattle.prices.specs.Tariff.{built-in};
+ghost use Rattle.prices.specs.Tariff.{built-in, price-file};
 ghost use Rattle.checker.specs.Answers.{check-answer};
 ghost use Rattle.planner.specs.Answers.{plan-verdict, planned, marks-left, rows-left, least-verdict, least-answer, costs-left};
 ghost use Rattle.exports.specs.Answers.{of-check, of-plan, of-least};
@@ -30,6 +30,14 @@ pub extern "C" fn caching_check(log: &[u8], rows: &[u32]) -> Answer
     of_check(checker::check(log, rows))
 }
 
+// The answer's value is the cost.
+#[no_mangle]
+pub extern "C" fn caching_check_with(prices: &[u8], log: &[u8], rows: &[u32]) -> Answer
+    ensures { λ r. ⌜ r ≡ of-check (check-answer (price-file (now (prices .entry))) (now (log .entry)) (now (rows .entry))) ⌝ }
+{
+    of_check(checker::check_with(prices, log, rows))
+}
+
 fn of_plan(outcome: Planned) -> Answer
     ensures { λ r. ⌜ r ≡ of-plan outcome ⌝ }
 {
@@ -49,6 +57,21 @@ pub extern "C" fn caching_plan(log: &[u8], marks: &mut [u8], rows: &mut [u32]) -
     of_plan(planner::plan(log, marks, rows))
 }
 
+// The answer's values are the cost and the number of rows.
+#[no_mangle]
+pub extern "C" fn caching_plan_with(
+    prices: &[u8],
+    log: &[u8],
+    marks: &mut [u8],
+    rows: &mut [u32],
+) -> Answer
+    ensures { λ r. ⌜ r ≡ of-plan (planned (plan-verdict (price-file (now (prices .entry))) (now (log .entry)) (length (now (marks .entry))) (length (now (rows .entry)))) (price-file (now (prices .entry))) (now (log .entry))) ⌝ }
+    ensures { λ _. ⌜ now (marks .exit) ≡ marks-left (price-file (now (prices .entry))) (now (log .entry)) (now (marks .entry)) (now (rows .entry)) ⌝ }
+    ensures { λ _. ⌜ now (rows .exit) ≡ rows-left (price-file (now (prices .entry))) (now (log .entry)) (now (marks .entry)) (now (rows .entry)) ⌝ }
+{
+    of_plan(planner::plan_with(prices, log, marks, rows))
+}
+
 fn of_least(outcome: LeastCosts) -> Answer
     ensures { λ r. ⌜ r ≡ of-least outcome ⌝ }
 {
@@ -65,4 +88,13 @@ pub extern "C" fn caching_least(log: &[u8], costs: &mut [u64]) -> Answer
     ensures { λ _. ⌜ now (costs .exit) ≡ costs-left built-in (now (log .entry)) (now (costs .entry)) ⌝ }
 {
     of_least(planner::least(log, costs))
+}
+
+// The answer's value is the number of costs.
+#[no_mangle]
+pub extern "C" fn caching_least_with(prices: &[u8], log: &[u8], costs: &mut [u64]) -> Answer
+    ensures { λ r. ⌜ r ≡ of-least (least-answer (least-verdict (price-file (now (prices .entry))) (now (log .entry)) (length (now (costs .entry)))) (now (log .entry))) ⌝ }
+    ensures { λ _. ⌜ now (costs .exit) ≡ costs-left (price-file (now (prices .entry))) (now (log .entry)) (now (costs .entry)) ⌝ }
+{
+    of_least(planner::least_with(prices, log, costs))
 }

@@ -11,12 +11,12 @@ use lib.ListN.{length, replicate, length-append, length-replicate}
 use Rattle.base.specs.declared.Refusal.{Refusal}
 use Rattle.base.specs.declared.Verdict.{Verdict}
 use Rattle.base.specs.declared.Verdict.the-variants.{Passed, Refused}
-use Rattle.base.specs.Refusals.{Condition, first, short, nth, First}
-use Rattle.base.specs.RefusalLaws.{first-refused, first-passed, append-passed}
+use Rattle.base.specs.Refusals.{Condition, first, otherwise, short, nth, First}
+use Rattle.base.specs.RefusalLaws.{first-refused, first-passed, first-append, otherwise-passed, append-passed}
 use Rattle.base.specs.Lent.{lent}
 use Rattle.base.specs.Lists.{build-length}
-use Rattle.prices.specs.Prices.{classes}
-use Rattle.prices.specs.Tariff.{built-in}
+use Rattle.prices.specs.PriceFile.{file-conditions}
+use Rattle.prices.specs.Tariff.{Tariff, price-file, Given, none, file, conditions-of}
 use Rattle.log.specs.declared.Setup.{Setup}
 use Rattle.log.specs.Fields.{request-count, seconds-of, servers-of, length-for}
 use Rattle.log.specs.Conditions.{setup-conditions, log-conditions}
@@ -44,6 +44,16 @@ pub record Decided (cs : List Condition) (v : Verdict) : Type 0 where
 decided : (cs : List Condition) → Decided cs (first cs)
 decided cs = record { refused = first-refused cs; passed = first-passed cs }
 
+-- the conditions of a price file come first, where one is given
+decided-after : (t : Tariff) (g : Given t) (cs : List Condition) → Decided (conditions-of g ++ cs) (otherwise (t .judged) (first cs))
+unfolding conditions-of
+decided-after t none cs = decided cs
+decided-after t (file bytes) cs = rw (← first-append (file-conditions bytes) cs) (decided (file-conditions bytes ++ cs))
+
+-- a price file
+pub file-decided : (bytes : List ℕ) → Decided (file-conditions bytes) (price-file bytes .judged)
+file-decided bytes = decided (file-conditions bytes)
+
 -- what a lent list holds at the end
 pub record Left (v : Verdict) (answer entry : List ℕ) : Type 0 where
   pub unchanged : (r : Refusal) → v ≡ Refused r → lent v answer entry ≡ entry
@@ -61,89 +71,89 @@ left v answer entry h =
     as-long (Refused r) e = rw e
 
 -- reading a log
-pub read-decided : (log : List ℕ) (seconds servers : ℕ)
-    → Decided (log-conditions classes log ++ (short (request-count log) seconds ∷ short (request-count log) servers ∷ [])) (read-verdict built-in log seconds servers)
+pub read-decided : (t : Tariff) (g : Given t) (log : List ℕ) (seconds servers : ℕ)
+    → Decided (conditions-of g ++ (log-conditions (t .table) log ++ (short (request-count log) seconds ∷ short (request-count log) servers ∷ []))) (read-verdict t log seconds servers)
 unfolding read-verdict
-read-decided log seconds servers = decided _
+read-decided t g log seconds servers = decided-after t g _
 
-pub read-left : (log seconds servers : List ℕ) → let v = read-verdict built-in log (length seconds) (length servers) in
+pub read-left : (t : Tariff) (log seconds servers : List ℕ) → let v = read-verdict t log (length seconds) (length servers) in
     Left v (seconds-of log) seconds × Left v (servers-of log) servers
-read-left log seconds servers = (
-  left v (seconds-of log) seconds (λ e. omega (arith, seconds-length log, read-passed built-in log _ _ e)),
-  left v (servers-of log) servers (λ e. omega (arith, servers-length log, read-passed built-in log _ _ e)),
+read-left t log seconds servers = (
+  left v (seconds-of log) seconds (λ e. omega (arith, seconds-length log, read-passed t log _ _ e)),
+  left v (servers-of log) servers (λ e. omega (arith, servers-length log, read-passed t log _ _ e)),
 )
   where
     v : Verdict
-    v = read-verdict built-in log (length seconds) (length servers)
+    v = read-verdict t log (length seconds) (length servers)
 
 -- writing a log
-pub write-decided : (c : Contents) (log : ℕ)
-    → Decided (contents-conditions classes c ++ (short (length-for (length (c .seconds))) log ∷ [])) (write-verdict built-in c log)
+pub write-decided : (t : Tariff) (g : Given t) (c : Contents) (log : ℕ)
+    → Decided (conditions-of g ++ (contents-conditions (t .table) c ++ (short (length-for (length (c .seconds))) log ∷ []))) (write-verdict t c log)
 unfolding write-verdict
-write-decided c log = decided _
+write-decided t g c log = decided-after t g _
 
-pub write-left : (c : Contents) (log : List ℕ) → Sixteen c → Left (write-verdict built-in c (length log)) (encode c) log
-write-left c log h =
-    left (write-verdict built-in c (length log)) (encode c) log (λ e. omega (arith, encode-length c h, write-passed built-in c (length log) e))
+pub write-left : (t : Tariff) (c : Contents) (log : List ℕ) → Sixteen c → Left (write-verdict t c (length log)) (encode c) log
+write-left t c log h =
+    left (write-verdict t c (length log)) (encode c) log (λ e. omega (arith, encode-length c h, write-passed t c (length log) e .2))
 
 -- checking a schedule
-pub check-decided : (log rows : List ℕ) → Decided (check-conditions classes log rows) (check-verdict-of built-in log rows)
+pub check-decided : (t : Tariff) (g : Given t) (log rows : List ℕ) → Decided (conditions-of g ++ check-conditions (t .table) log rows) (check-verdict-of t log rows)
 unfolding check-verdict-of
-check-decided log rows = decided (check-conditions classes log rows)
+check-decided t g log rows = decided-after t g (check-conditions (t .table) log rows)
 
 -- planning: marks are looked at before rows
-pub plan-decided : (log : List ℕ) (marks rows : ℕ)
-    → Decided (log-conditions classes log ++ (short (request-count log) marks ∷ short (length (rows-of-plan built-in log)) rows ∷ [])) (plan-verdict built-in log marks rows)
+pub plan-decided : (t : Tariff) (g : Given t) (log : List ℕ) (marks rows : ℕ)
+    → Decided (conditions-of g ++ (log-conditions (t .table) log ++ (short (request-count log) marks ∷ short (length (rows-of-plan t log)) rows ∷ []))) (plan-verdict t log marks rows)
 unfolding plan-verdict
-plan-decided log marks rows = decided _
+plan-decided t g log marks rows = decided-after t g _
 
-marks-length : (log : List ℕ) → length (marks-of built-in log) ≡ request-count log
+marks-length : (t : Tariff) (log : List ℕ) → length (marks-of t log) ≡ request-count log
 unfolding marks-of
-marks-length log = build-length (request-count log) _
+marks-length t log = build-length (request-count log) _
 
-pub plan-left : (log marks rows : List ℕ) → let v = plan-verdict built-in log (length marks) (length rows) in
-    Left v (marks-of built-in log) marks × Left v (rows-of-plan built-in log) rows
+pub plan-left : (t : Tariff) (log marks rows : List ℕ) → let v = plan-verdict t log (length marks) (length rows) in
+    Left v (marks-of t log) marks × Left v (rows-of-plan t log) rows
 unfolding plan-verdict
-plan-left log marks rows = (
-  left v (marks-of built-in log) marks (λ e. omega (arith, marks-length log, ltb-false (length marks) (request-count log) (room e 0))),
-  left v (rows-of-plan built-in log) rows (λ e. ltb-false (length rows) (length (rows-of-plan built-in log)) (room e 1)),
+plan-left t log marks rows = (
+  left v (marks-of t log) marks (λ e. omega (arith, marks-length t log, ltb-false (length marks) (request-count log) (room e 0))),
+  left v (rows-of-plan t log) rows (λ e. ltb-false (length rows) (length (rows-of-plan t log)) (room e 1)),
 )
   where
     v : Verdict
-    v = plan-verdict built-in log (length marks) (length rows)
+    v = plan-verdict t log (length marks) (length rows)
 
     outputs : List Condition
-    outputs = short (request-count log) (length marks) ∷ short (length (rows-of-plan built-in log)) (length rows) ∷ []
+    outputs = short (request-count log) (length marks) ∷ short (length (rows-of-plan t log)) (length rows) ∷ []
 
     room : v ≡ Passed → (i : ℕ) → nth outputs i .holds ≡ false
-    room e = first-passed outputs .0 (append-passed (log-conditions classes log) outputs .0 e .1)
+    room e = first-passed outputs .0 (append-passed (log-conditions (t .table) log) outputs .0 (otherwise-passed (t .judged) _ e .1) .1)
 
 -- the least cost of every prefix
-pub least-decided : (log : List ℕ) (costs : ℕ)
-    → Decided (log-conditions classes log ++ (short (suc (request-count log)) costs ∷ [])) (least-verdict built-in log costs)
+pub least-decided : (t : Tariff) (g : Given t) (log : List ℕ) (costs : ℕ)
+    → Decided (conditions-of g ++ (log-conditions (t .table) log ++ (short (suc (request-count log)) costs ∷ []))) (least-verdict t log costs)
 unfolding least-verdict
-least-decided log costs = decided _
+least-decided t g log costs = decided-after t g _
 
-least-length : (log : List ℕ) → length (least-costs built-in log) ≡ suc (request-count log)
+least-length : (t : Tariff) (log : List ℕ) → length (least-costs t log) ≡ suc (request-count log)
 unfolding least-costs
-least-length log = build-length (suc (request-count log)) _
+least-length t log = build-length (suc (request-count log)) _
 
-pub least-left : (log costs : List ℕ) → Left (least-verdict built-in log (length costs)) (least-costs built-in log) costs
+pub least-left : (t : Tariff) (log costs : List ℕ) → Left (least-verdict t log (length costs)) (least-costs t log) costs
 unfolding least-verdict
-least-left log costs =
-    left (least-verdict built-in log (length costs)) (least-costs built-in log) costs
-    (λ e. omega (arith, least-length log, ltb-false (length costs) (suc (request-count log)) (room e 0)))
+least-left t log costs =
+    left (least-verdict t log (length costs)) (least-costs t log) costs
+    (λ e. omega (arith, least-length t log, ltb-false (length costs) (suc (request-count log)) (room e 0)))
   where
     outputs : List Condition
     outputs = short (suc (request-count log)) (length costs) ∷ []
 
-    room : least-verdict built-in log (length costs) ≡ Passed → (i : ℕ) → nth outputs i .holds ≡ false
-    room e = first-passed outputs .0 (append-passed (log-conditions classes log) outputs .0 e .1)
+    room : least-verdict t log (length costs) ≡ Passed → (i : ℕ) → nth outputs i .holds ≡ false
+    room e = first-passed outputs .0 (append-passed (log-conditions (t .table) log) outputs .0 (otherwise-passed (t .judged) _ e .1) .1)
 
 -- the online cache's calls; they are lent nothing
-pub start-decided : (s : Setup) → Decided (setup-conditions classes s) (start-verdict s)
+pub start-decided : (t : Tariff) (g : Given t) (s : Setup) → Decided (conditions-of g ++ setup-conditions (t .table) s) (start-verdict t s)
 unfolding start-verdict
-start-decided s = decided _
+start-decided t g s = decided-after t g _
 
 pub scan-decided : (c : Cache) (second server : ℕ) → Decided (scan-conditions c second server) (scan-verdict c second server)
 unfolding scan-verdict
@@ -158,20 +168,21 @@ unfolding close-verdict
 close-decided c = decided _
 
 -- the sheet of a log
-pub sheet-decided : (log : List ℕ) (text : ℕ) → Decided (log-conditions classes log ++ (short (length (sheet-of log)) text ∷ [])) (sheet-verdict log text)
+pub sheet-decided : (t : Tariff) (g : Given t) (log : List ℕ) (text : ℕ)
+    → Decided (conditions-of g ++ (log-conditions (t .table) log ++ (short (length (sheet-of t log)) text ∷ []))) (sheet-verdict t log text)
 unfolding sheet-verdict
-sheet-decided log text = decided _
+sheet-decided t g log text = decided-after t g _
 
-pub sheet-left : (log text : List ℕ) → Left (sheet-verdict log (length text)) (sheet-of log) text
+pub sheet-left : (t : Tariff) (log text : List ℕ) → Left (sheet-verdict t log (length text)) (sheet-of t log) text
 unfolding sheet-verdict
-sheet-left log text =
-    left (sheet-verdict log (length text)) (sheet-of log) text (λ e. ltb-false (length text) (length (sheet-of log)) (room e 0))
+sheet-left t log text =
+    left (sheet-verdict t log (length text)) (sheet-of t log) text (λ e. ltb-false (length text) (length (sheet-of t log)) (room e 0))
   where
     outputs : List Condition
-    outputs = short (length (sheet-of log)) (length text) ∷ []
+    outputs = short (length (sheet-of t log)) (length text) ∷ []
 
-    room : sheet-verdict log (length text) ≡ Passed → (i : ℕ) → nth outputs i .holds ≡ false
-    room e = first-passed outputs .0 (append-passed (log-conditions classes log) outputs .0 e .1)
+    room : sheet-verdict t log (length text) ≡ Passed → (i : ℕ) → nth outputs i .holds ≡ false
+    room e = first-passed outputs .0 (append-passed (log-conditions (t .table) log) outputs .0 (otherwise-passed (t .judged) _ e .1) .1)
 
 -- the line of a refusal
 pub line-decided : (r : Refusal) (text : ℕ) → Decided (short (length (refusal-text r)) text ∷ []) (room-verdict (refusal-text r) text)
@@ -193,6 +204,6 @@ pub close-unchanged : (c : Cache) (r : Refusal) → close-verdict c ≡ Refused 
 unfolding closed-answer closed-by
 close-unchanged c r e = ap (λ (v : Verdict). closed-by v c .cache) e
 
-pub start-zeros : (s : Setup) (r : Refusal) → start-verdict s ≡ Refused r → started s .cache ≡ zeros
+pub start-zeros : (t : Tariff) (s : Setup) (r : Refusal) → start-verdict t s ≡ Refused r → started t s .cache ≡ zeros
 unfolding started started-by
-start-zeros s r e = ap (λ (v : Verdict). started-by v s .cache) e
+start-zeros t s r e = ap (λ (v : Verdict). started-by v t s .cache) e

@@ -6,7 +6,7 @@ use mathlib.Core.Path.{_≡_, sym}
 use Prim.Native.Nat.{ℕ, suc}
 use Rattle.base.specs.declared.Verdict.the-variants.{Passed}
 use Rattle.base.specs.Refusals.{first, nth}
-use Rattle.prices.specs.Tariff.{built-in}
+use Rattle.prices.specs.Tariff.{Tariff}
 use Rattle.log.specs.Fields.{server-count, request-count}
 use Rattle.log.specs.Conditions.{Accepted}
 use Rattle.model.specs.Requests.{Requests}
@@ -20,20 +20,20 @@ use Rattle.checker.specs.Answers.{check-answer, Answered}
 use Rattle.checker.specs.Accepts.{answers-cost}
 
 -- it answers a cost if and only if the log is accepted, the numbers are rows that are well formed and feasible for it, and that is their cost
-pub check-accepts : (log numbers : List ℕ) (cost : ℕ) → (check-answer built-in log numbers ≡ answer.Cost cost) ↔ Answered built-in log numbers cost
-check-accepts = answers-cost built-in
+pub check-accepts : (t : Tariff) (log numbers : List ℕ) (cost : ℕ) → (check-answer t log numbers ≡ answer.Cost cost) ↔ Answered t log numbers cost
+check-accepts = answers-cost
 
 -- so rows that are well formed and feasible for an accepted log are accepted, with their cost
-pub schedule-accepted : (log : List ℕ) (rows : List Row) → Accepted built-in log
+pub schedule-accepted : (t : Tariff) (log : List ℕ) (rows : List Row) → Accepted t log
     → well-formed (server-count log) (request-count log) (requests-in log .time (request-count log)) rows ≡ true
     → Feasible (requests-in log) (request-count log) rows
-    → check-answer built-in log (flat rows) ≡ answer.Cost (cost-of (prices-in built-in log) rows)
-schedule-accepted log rows accepted formed feasible =
-    check-accepts log (flat rows) (cost-of (prices-in built-in log) rows) .1
+    → check-answer t log (flat rows) ≡ answer.Cost (cost-of (prices-in t log) rows)
+schedule-accepted t log rows accepted formed feasible =
+    check-accepts t log (flat rows) (cost-of (prices-in t log) rows) .1
     (record {
       log-accepted = accepted;
       rows-accepted = flat-scheduled (server-count log) (requests-in log) (request-count log) rows formed feasible;
-      cost-is = sym (flat-cost (prices-in built-in log) rows);
+      cost-is = sym (flat-cost (prices-in t log) rows);
     })
 
 -- the conditions 17 and 18 of a list of rows, over the relation Stands

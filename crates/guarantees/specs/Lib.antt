@@ -11,3 +11,4 @@ pub mod Sources
 pub mod Demand3
 pub mod Closes
 pub mod SheetColumns
+pub mod PriceFiles

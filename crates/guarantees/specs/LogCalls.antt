@@ -9,8 +9,8 @@ use Rattle.base.specs.declared.Verdict.{Verdict}
 use Rattle.base.specs.declared.Verdict.the-variants.{Passed, Refused}
 use Rattle.base.specs.Bytes.{Are-bytes}
 use Rattle.base.specs.Lent.{lent}
-use Rattle.prices.specs.Prices.{classes}
-use Rattle.prices.specs.Tariff.{built-in}
+use Rattle.base.specs.RefusalLaws.{otherwise-passed}
+use Rattle.prices.specs.Tariff.{Tariff}
 use Rattle.log.specs.declared.Header.{Header}
 use Rattle.log.specs.declared.Decoded.{Decoded}
 use Rattle.log.specs.declared.ReadOutcome.the-variants as read
@@ -19,7 +19,7 @@ use Rattle.log.specs.Fields.{header-of, request-count, length-for, seconds-of, 
 use Rattle.log.specs.Contents.{Contents, contents, decode, encode}
 use Rattle.log.specs.Ranges.{Proper}
 use Rattle.log.specs.Answers.{read-verdict, decoded, seconds-left, servers-left, write-verdict, written, log-left}
-use Rattle.log.specs.AcceptedLaws.{accepted-class, accepted-sound, seconds-length, servers-length}
+use Rattle.log.specs.AcceptedLaws.{accepted-judged, accepted-class, accepted-sound, seconds-length, servers-length}
 use Rattle.log.specs.EncodeLaws.{encode-length, encode-count, encode-header, encode-seconds, encode-servers}
 use Rattle.log.specs.RoundTrip.{encode-accepted, decode-proper, encode-decode}
 use Rattle.log.specs.AnswerLaws.{read-passed, read-passes, write-passed, write-passes}
@@ -53,37 +53,41 @@ unfolding lent
 given v answer entry e = rw e
 
 -- `write` was handed a header, seconds and servers, and answered the length n
-module _ (h : Header) (seconds servers log : List ℕ) (n : ℕ) (sixteen : length (h .id) ≡ 16)
-    (wrote : written (write-verdict built-in (contents h seconds servers) (length log)) (contents h seconds servers) ≡ write.Length n) where
+module _ (t : Tariff) (h : Header) (seconds servers log : List ℕ) (n : ℕ) (sixteen : length (h .id) ≡ 16)
+    (wrote : written (write-verdict t (contents h seconds servers) (length log)) (contents h seconds servers) ≡ write.Length n) where
   -- the first n bytes of what it left
   abbrev bytes-left : List ℕ
-  bytes-left = take n (log-left built-in (contents h seconds servers) log)
-
-  in-table : h .«class» < length classes
-  in-table = write-passed built-in (contents h seconds servers) (length log) (length-passed _ _ n wrote .0) .0
+  bytes-left = take n (log-left t (contents h seconds servers) log)
 
   proper : Proper (contents h seconds servers)
-  proper = write-passed built-in (contents h seconds servers) (length log) (length-passed _ _ n wrote .0) .1
+  proper = write-passed t (contents h seconds servers) (length log) (length-passed _ _ n wrote .0) .1
+
+  -- the price file was not refused, and has the class
+  judged : (t .judged ≡ Passed) × (h .«class» < length (t .table))
+  unfolding write-verdict
+  judged =
+      let p = length-passed _ _ n wrote .0 in
+      (otherwise-passed (t .judged) _ p .0, write-passed t (contents h seconds servers) (length log) p .0)
 
   -- they are the log that says this
   bytes-are : bytes-left ≡ encode (contents h seconds servers)
   bytes-are =
       let c = contents h seconds servers in
-      let (p, m) = length-passed (write-verdict built-in c (length log)) c n wrote in
-      ap (take n) (given (write-verdict built-in c (length log)) (encode c) log p)
+      let (p, m) = length-passed (write-verdict t c (length log)) c n wrote in
+      ap (take n) (given (write-verdict t c (length log)) (encode c) log p)
       ∙ take-at (encode c) _ n (encode-length c sixteen ∙ sym m)
 
   -- read into lists that are long enough, they give the same header and as many requests, and the lists hold the same seconds and servers, then zeros
   pub written-read : (seconds′ servers′ : List ℕ) → length seconds ≤ length seconds′ → length seconds ≤ length servers′
-      → (decoded (read-verdict built-in bytes-left (length seconds′) (length servers′)) bytes-left ≡ requests-read h (length seconds))
-      × (seconds-left built-in bytes-left seconds′ servers′ ≡ seconds ++ replicate (length seconds′ - length seconds) 0)
-      × (servers-left built-in bytes-left seconds′ servers′ ≡ servers ++ replicate (length servers′ - length servers) 0)
+      → (decoded (read-verdict t bytes-left (length seconds′) (length servers′)) bytes-left ≡ requests-read h (length seconds))
+      × (seconds-left t bytes-left seconds′ servers′ ≡ seconds ++ replicate (length seconds′ - length seconds) 0)
+      × (servers-left t bytes-left seconds′ servers′ ≡ servers ++ replicate (length servers′ - length servers) 0)
   unfolding decoded
   written-read seconds′ servers′ p q =
       let c = contents h seconds servers in
       let count = encode-count c (omega (arith, proper .requests-most)) in
-      let v : read-verdict built-in (encode c) (length seconds′) (length servers′) ≡ Passed =
-      read-passes built-in (encode c) _ _ (encode-accepted built-in c refl in-table proper sixteen) (omega arith) (omega arith) in
+      let v : read-verdict t (encode c) (length seconds′) (length servers′) ≡ Passed =
+      read-passes t (encode c) _ _ (encode-accepted t c (judged .0) (judged .1) proper sixteen) (omega arith) (omega arith) in
       rw bytes-are (
         rw (v, encode-header c sixteen, count),
         given _ _ seconds′ v ∙ rw (encode-seconds c sixteen proper),
@@ -91,34 +95,34 @@ module _ (h : Header) (seconds servers log : List ℕ) (n : ℕ) (sixteen : leng
       )
 
 -- `read` was handed bytes, and answered the header h and n requests
-module _ (bytes seconds servers : List ℕ) (h : Header) (n : ℕ) (are-bytes : Are-bytes bytes)
-    (was-read : decoded (read-verdict built-in bytes (length seconds) (length servers)) bytes ≡ requests-read h n) where
+module _ (t : Tariff) (bytes seconds servers : List ℕ) (h : Header) (n : ℕ) (are-bytes : Are-bytes bytes)
+    (was-read : decoded (read-verdict t bytes (length seconds) (length servers)) bytes ≡ requests-read h n) where
   -- that header, and the requests at the front of what it left
   abbrev contents-read : Contents
-  contents-read = contents h (take n (seconds-left built-in bytes seconds servers)) (take n (servers-left built-in bytes seconds servers))
+  contents-read = contents h (take n (seconds-left t bytes seconds servers)) (take n (servers-left t bytes seconds servers))
 
   -- they are what the bytes say
   contents-are : contents-read ≡ decode bytes
   unfolding decode
   contents-are =
-      let (v, e, m) = requests-passed (read-verdict built-in bytes (length seconds) (length servers)) bytes h n was-read in
+      let (v, e, m) = requests-passed (read-verdict t bytes (length seconds) (length servers)) bytes h n was-read in
       rw (
         e,
         m,
-        given (read-verdict built-in bytes (length seconds) (length servers)) (seconds-of bytes) seconds v,
-        given (read-verdict built-in bytes (length seconds) (length servers)) (servers-of bytes) servers v,
+        given (read-verdict t bytes (length seconds) (length servers)) (seconds-of bytes) seconds v,
+        given (read-verdict t bytes (length seconds) (length servers)) (servers-of bytes) servers v,
         take-at (seconds-of bytes) _ (request-count bytes) (seconds-length bytes),
         take-at (servers-of bytes) _ (request-count bytes) (servers-length bytes),
       )
 
   -- written into a list that is long enough, they give the length of the bytes, and the list holds the bytes, then zeros
   pub read-written : (log : List ℕ) → length bytes ≤ length log
-      → (written (write-verdict built-in contents-read (length log)) contents-read ≡ write.Length (length bytes))
-      × (log-left built-in contents-read log ≡ bytes ++ replicate (length log - length bytes) 0)
+      → (written (write-verdict t contents-read (length log)) contents-read ≡ write.Length (length bytes))
+      × (log-left t contents-read log ≡ bytes ++ replicate (length log - length bytes) 0)
   unfolding written decode header-of
   read-written log l =
-      let v = requests-passed (read-verdict built-in bytes (length seconds) (length servers)) bytes h n was-read .0 in
-      let a = read-passed built-in bytes _ _ v .0 in
-      let long : length-for (length (seconds-of bytes)) ≡ length bytes = ap length-for (seconds-length bytes) ∙ sym (accepted-sound built-in bytes a .length-is) in
-      let w : write-verdict built-in (decode bytes) (length log) ≡ Passed = write-passes built-in (decode bytes) _ refl (accepted-class built-in bytes a) (decode-proper built-in bytes a) (omega arith) in
-      rw contents-are (rw (w, long), given _ _ log w ∙ rw (encode-decode built-in bytes a are-bytes))
+      let v = requests-passed (read-verdict t bytes (length seconds) (length servers)) bytes h n was-read .0 in
+      let a = read-passed t bytes _ _ v .0 in
+      let long : length-for (length (seconds-of bytes)) ≡ length bytes = ap length-for (seconds-length bytes) ∙ sym (accepted-sound t bytes a .length-is) in
+      let w : write-verdict t (decode bytes) (length log) ≡ Passed = write-passes t (decode bytes) _ (accepted-judged t bytes a) (accepted-class t bytes a) (decode-proper t bytes a) (omega arith) in
+      rw contents-are (rw (w, long), given _ _ log w ∙ rw (encode-decode t bytes a are-bytes))

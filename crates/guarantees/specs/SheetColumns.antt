@@ -9,7 +9,8 @@ use lib.ListN.{length, getD, replicate}
 use Rattle.base.specs.Lists.{build, build-length, build-at}
 use Rattle.base.specs.declared.Verdict.the-variants.{Passed}
 use Rattle.prices.specs.Prices.{window}
-use Rattle.prices.specs.Tariff.{built-in}
+use Rattle.prices.specs.PriceLaws.{given-priced}
+use Rattle.prices.specs.Tariff.{Tariff, Given}
 use Rattle.log.specs.Fields.{setup-of, server-count, home-of, request-count, seconds-of, servers-of, header-of}
 use Rattle.log.specs.Conditions.{Accepted}
 use Rattle.log.specs.Contents.{Contents, decode, first-requests, cut}
@@ -40,31 +41,31 @@ use Rattle.guarantees.specs.Demand3.{planned-best, online-within-three}
 use Rattle.guarantees.specs.Closes.{close-within, close-at-once}
 
 -- what line k of a log's sheet says, from 1
-abbrev pub line-of : List ℕ → ℕ → Entry
-line-of log k = entry-of (columns-of log) (k - 1)
+abbrev pub line-of : Tariff → List ℕ → ℕ → Entry
+line-of t log k = entry-of (columns-of t log) (k - 1)
 
-pub record Least-column (log : List ℕ) (k : ℕ) : Type 0 where
+pub record Least-column (t : Tariff) (log : List ℕ) (k : ℕ) : Type 0 where
   -- it is the line of request k
-  pub number-is : line-of log k .number ≡ k
+  pub number-is : line-of t log k .number ≡ k
   -- its least cost is the cost of the plan of the log cut to its first k requests
-  pub least-is : line-of log k .least ≡ plan-cost (prices-in built-in (cut k log)) (requests-in (cut k log)) k
+  pub least-is : line-of t log k .least ≡ plan-cost (prices-in t (cut k log)) (requests-in (cut k log)) k
   -- so it is what the planner answers for the cut log, its outputs long enough
-  pub answers : (marks rows : ℕ) → k ≤ marks → length (rows-of-plan built-in (cut k log)) ≤ rows
-      → planned (plan-verdict built-in (cut k log) marks rows) built-in (cut k log) ≡ planned′.Plan (line-of log k .least) (length (planned-rows built-in (cut k log)))
+  pub answers : (marks rows : ℕ) → k ≤ marks → length (rows-of-plan t (cut k log)) ≤ rows
+      → planned (plan-verdict t (cut k log) marks rows) t (cut k log) ≡ planned′.Plan (line-of t log k .least) (length (planned-rows t (cut k log)))
 
 -- THE SHEET'S LEAST COLUMN
-pub least-column : (log : List ℕ) (k : ℕ) → Accepted built-in log → 1 ≤ k → k ≤ request-count log → Least-column log k
+pub least-column : (t : Tariff) (log : List ℕ) (k : ℕ) → Accepted t log → 1 ≤ k → k ≤ request-count log → Least-column t log k
 unfolding entry-of columns-of
-least-column log k a least most =
-    let best = planned-best log k a most in
-    let number : line-of log k .number ≡ k = omega arith in
-    let column : line-of log k .least ≡ plan-cost (prices-in built-in (cut k log)) (requests-in (cut k log)) k =
-    ap (λ (i : ℕ). getD (least-costs built-in log) i 0) number ∙ best .least-is in
+least-column t log k a least most =
+    let best = planned-best t log k a most in
+    let number : line-of t log k .number ≡ k = omega arith in
+    let column : line-of t log k .least ≡ plan-cost (prices-in t (cut k log)) (requests-in (cut k log)) k =
+    ap (λ (i : ℕ). getD (least-costs t log) i 0) number ∙ best .least-is in
     record {
       number-is = number;
       least-is = column;
       answers = λ marks rows h l.
-          best .gives marks rows h l ∙ ap (λ (cost : ℕ). planned′.Plan cost (length (planned-rows built-in (cut k log)))) (sym column);
+          best .gives marks rows h l ∙ ap (λ (cost : ℕ). planned′.Plan cost (length (planned-rows t (cut k log)))) (sym column);
     }
 
 -- ---- the live columns
@@ -74,86 +75,86 @@ abbrev pub calls-of : List ℕ → ℕ → List Call
 calls-of log k = scans (seconds-of log) (servers-of log) k
 
 -- what the call of request k answers, after those before it
-abbrev pub answer-of : List ℕ → ℕ → Scanned
-answer-of log k = scanned (run (opened log) (calls-of log (k - 1))) (line-of log k .second) (line-of log k .server)
+abbrev pub answer-of : Tariff → List ℕ → ℕ → Scanned
+answer-of t log k = scanned (run (opened t log) (calls-of log (k - 1))) (line-of t log k .second) (line-of t log k .server)
 
-pub record Live-columns (log : List ℕ) (k : ℕ) : Type 0 where
+pub record Live-columns (t : Tariff) (log : List ℕ) (k : ℕ) : Type 0 where
   -- neither the start nor any of the first k calls is refused
-  pub ready : start-verdict (setup-of log) ≡ Passed
-  pub passes : verdicts (opened log) (calls-of log k) ≡ replicate k Passed
+  pub ready : start-verdict t (setup-of log) ≡ Passed
+  pub passes : verdicts (opened t log) (calls-of log k) ≡ replicate k Passed
   -- the line has the mark and the running cost that call k answers, which is the cost of the state after all k
-  pub mark-is : line-of log k .live ≡ outcome-letter (answer-of log k .outcome)
-  pub cost-is : line-of log k .cost ≡ outcome-cost (answer-of log k .outcome)
-  pub running-is : line-of log k .cost ≡ running (run (opened log) (calls-of log k))
+  pub mark-is : line-of t log k .live ≡ outcome-letter (answer-of t log k .outcome)
+  pub cost-is : line-of t log k .cost ≡ outcome-cost (answer-of t log k .outcome)
+  pub running-is : line-of t log k .cost ≡ running (run (opened t log) (calls-of log k))
   -- demand 3's claim holds of these calls, and what they take are the requests of the cut log
-  pub claimed : Claim (setup-of log) (opened log) (calls-of log k)
-  pub taken-are : served (setup-of log) (opened log) (calls-of log k) ≡ requests-in (cut k log)
-  pub all-taken : served-count (setup-of log) (opened log) (calls-of log k) ≡ k
+  pub claimed : Claim (t .table) (setup-of log) (opened t log) (calls-of log k)
+  pub taken-are : served (t .table) (setup-of log) (opened t log) (calls-of log k) ≡ requests-in (cut k log)
+  pub all-taken : served-count (t .table) (setup-of log) (opened t log) (calls-of log k) ≡ k
   -- so the running cost is at least the least cost that the line has, and at most three times that
-  pub no-less : line-of log k .least ≤ line-of log k .cost
-  pub no-more : line-of log k .cost ≤ 3 * line-of log k .least
+  pub no-less : line-of t log k .least ≤ line-of t log k .cost
+  pub no-more : line-of t log k .cost ≤ 3 * line-of t log k .least
 
-module _ (log : List ℕ) (k : ℕ) (a : Accepted built-in log) (h : k ≤ request-count log) where
-  passed : verdicts (opened log) (calls-of log k) ≡ replicate k Passed
+module _ (t : Tariff) (g : Given t) (log : List ℕ) (k : ℕ) (a : Accepted t log) (h : k ≤ request-count log) where
+  passed : verdicts (opened t log) (calls-of log k) ≡ replicate k Passed
   unfolding Runs
-  passed = scans-passed (opened log) (seconds-of log) (servers-of log) k (λ i l. goes-on log a i (omega arith))
+  passed = scans-passed (opened t log) (seconds-of log) (servers-of log) k (λ i l. goes-on t (given-priced t g) log a i (omega arith))
 
-  claim-of : Claim (setup-of log) (opened log) (calls-of log k)
+  claim-of : Claim (t .table) (setup-of log) (opened t log) (calls-of log k)
   unfolding opened
-  claim-of = online-within-three (setup-of log) (starts log a) (calls-of log k)
+  claim-of = online-within-three t g (setup-of log) (starts t (given-priced t g) log a) (calls-of log k)
 
   list-of : taken (server-count log) begun (calls-of log k) ≡ build k (request (seconds-of log) (servers-of log))
   list-of = scans-taken (server-count log) begun (seconds-of log) (servers-of log) k (sym (claim-of .refused) ∙ passed)
 
-  served-is : served (setup-of log) (opened log) (calls-of log k) ≡ requests-in (cut k log)
+  served-is : served (t .table) (setup-of log) (opened t log) (calls-of log k) ≡ requests-in (cut k log)
   unfolding decode first-requests header-of requests-in
   served-is =
       ap (requests-of (home-of log)) list-of
       ∙ requests-taken (home-of log) k (seconds-of log) (servers-of log) (omega (arith, seconds-length log)) (omega (arith, servers-length log))
-      ∙ sym (ap (λ (c : Contents). requests (c .header .home) (c .seconds) (c .servers)) (cut-decodes built-in log k a h))
+      ∙ sym (ap (λ (c : Contents). requests (c .header .home) (c .seconds) (c .servers)) (cut-decodes t log k a h))
 
-  count-is : served-count (setup-of log) (opened log) (calls-of log k) ≡ k
+  count-is : served-count (t .table) (setup-of log) (opened t log) (calls-of log k) ≡ k
   count-is = ap length list-of ∙ build-length k (request (seconds-of log) (servers-of log))
 
   -- a claim's least cost is that of the cut log's plan
-  least-of : (x : Claim (setup-of log) (opened log) (calls-of log k)) → x .least ≡ plan-cost (prices-in built-in (cut k log)) (requests-in (cut k log)) k
+  least-of : (x : Claim (t .table) (setup-of log) (opened t log) (calls-of log k)) → x .least ≡ plan-cost (prices-in t (cut k log)) (requests-in (cut k log)) k
   unfolding prices-in
-  least-of x = x .is-planned ∙ rw (served-is, count-is, cut-prices built-in log k a h)
+  least-of x = x .is-planned ∙ rw (served-is, count-is, cut-prices t log k a h)
 
-module _ (log : List ℕ) (i : ℕ) (a : Accepted built-in log) (h : i < request-count log) where
+module _ (t : Tariff) (g : Given t) (log : List ℕ) (i : ℕ) (a : Accepted t log) (h : i < request-count log) where
   -- the line of request i, from 0
-  turn-is : turn (run (opened log) (calls-of log i)) (getD (seconds-of log) i 0) (getD (servers-of log) i 0)
+  turn-is : turn (run (opened t log) (calls-of log i)) (getD (seconds-of log) i 0) (getD (servers-of log) i 0)
       ≡ record {
-        cache = run (opened log) (calls-of log (suc i));
-        mark = live-mark (opened log) (seconds-of log) (servers-of log) i;
-        cost = live-cost (opened log) (seconds-of log) (servers-of log) i;
+        cache = run (opened t log) (calls-of log (suc i));
+        mark = live-mark (opened t log) (seconds-of log) (servers-of log) i;
+        cost = live-cost (opened t log) (seconds-of log) (servers-of log) i;
       }
   unfolding state-after
-  turn-is = turn-next (opened log) (seconds-of log) (servers-of log) i (run (opened log) (calls-of log i)) refl (goes-on log a i h)
+  turn-is = turn-next (opened t log) (seconds-of log) (servers-of log) i (run (opened t log) (calls-of log i)) refl (goes-on t (given-priced t g) log a i h)
 
 -- THE SHEET'S LIVE COLUMNS
-pub live-columns : (log : List ℕ) (k : ℕ) → Accepted built-in log → 1 ≤ k → k ≤ request-count log → Live-columns log k
+pub live-columns : (t : Tariff) → Given t → (log : List ℕ) (k : ℕ) → Accepted t log → 1 ≤ k → k ≤ request-count log → Live-columns t log k
 unfolding entry-of columns-of live-marks running-costs live-cost state-after turn
-live-columns log zero a least most = absurd (omega arith)
-live-columns log (suc i) a least most =
+live-columns t g log zero a least most = absurd (omega arith)
+live-columns t g log (suc i) a least most =
     let e : suc i - 1 ≡ i = omega arith in
-    let mark : getD (live-marks log) i 0 ≡ live-mark (opened log) (seconds-of log) (servers-of log) i =
-    build-at (request-count log) (live-mark (opened log) (seconds-of log) (servers-of log)) i 0 most in
-    let cost : getD (running-costs log) i 0 ≡ live-cost (opened log) (seconds-of log) (servers-of log) i =
-    build-at (request-count log) (live-cost (opened log) (seconds-of log) (servers-of log)) i 0 most in
-    let t = turn-is log i a most in
-    let claim = claim-of log (suc i) a most in
-    let column : claim .least ≡ line-of log (suc i) .least = least-of log (suc i) a most claim ∙ sym (least-column log (suc i) a least most .least-is) in
-    let paid : line-of log (suc i) .cost ≡ running (run (opened log) (calls-of log (suc i))) = rw e cost in
+    let mark : getD (live-marks t log) i 0 ≡ live-mark (opened t log) (seconds-of log) (servers-of log) i =
+    build-at (request-count log) (live-mark (opened t log) (seconds-of log) (servers-of log)) i 0 most in
+    let cost : getD (running-costs t log) i 0 ≡ live-cost (opened t log) (seconds-of log) (servers-of log) i =
+    build-at (request-count log) (live-cost (opened t log) (seconds-of log) (servers-of log)) i 0 most in
+    let x = turn-is t g log i a most in
+    let claim = claim-of t g log (suc i) a most in
+    let column : claim .least ≡ line-of t log (suc i) .least = least-of t g log (suc i) a most claim ∙ sym (least-column t log (suc i) a least most .least-is) in
+    let paid : line-of t log (suc i) .cost ≡ running (run (opened t log) (calls-of log (suc i))) = rw e cost in
     record {
-      ready = starts log a;
-      passes = passed log (suc i) a most;
-      mark-is = rw e (mark ∙ sym (ap (λ (x : Turn). x .mark) t));
-      cost-is = rw e (cost ∙ sym (ap (λ (x : Turn). x .cost) t));
+      ready = starts t (given-priced t g) log a;
+      passes = passed t g log (suc i) a most;
+      mark-is = rw e (mark ∙ sym (ap (λ (y : Turn). y .mark) x));
+      cost-is = rw e (cost ∙ sym (ap (λ (y : Turn). y .cost) x));
       running-is = paid;
       claimed = claim;
-      taken-are = served-is log (suc i) a most;
-      all-taken = count-is log (suc i) a most;
+      taken-are = served-is t g log (suc i) a most;
+      all-taken = count-is t g log (suc i) a most;
       no-less = omega (arith, claim .no-less, column, paid);
       no-more = omega (arith, claim .no-more, column, paid);
     }
@@ -164,29 +165,29 @@ live-columns log (suc i) a least most =
 abbrev pub all-calls : List ℕ → List Call
 all-calls log = calls-of log (request-count log)
 
-pub record Close-line (log : List ℕ) : Type 0 where
+pub record Close-line (t : Tariff) (log : List ℕ) : Type 0 where
   -- the close after all calls is not refused, and answers the closing cost that the line has
-  pub passes : close-verdict (run (opened log) (all-calls log)) ≡ Passed
-  pub answers : closed-answer (run (opened log) (all-calls log)) .outcome ≡ close′.Cost (closing-cost log)
+  pub passes : close-verdict (run (opened t log) (all-calls log)) ≡ Passed
+  pub answers : closed-answer (run (opened t log) (all-calls log)) .outcome ≡ close′.Cost (closing-cost t log)
   -- it is at least the running cost, and at most three times the least cost of all requests and one transfer price
-  pub no-less : running (run (opened log) (all-calls log)) ≤ closing-cost log
-  pub no-more : closing-cost log ≤ 3 * getD (least-costs built-in log) (request-count log) 0 + prices-in built-in log .transfer
+  pub no-less : running (run (opened t log) (all-calls log)) ≤ closing-cost t log
+  pub no-more : closing-cost t log ≤ 3 * getD (least-costs t log) (request-count log) 0 + prices-in t log .transfer
   -- a log without requests has the holding of one window
-  pub empty : request-count log ≡ 0 → closing-cost log ≡ prices-in built-in log .hold * window (prices-in built-in log)
+  pub empty : request-count log ≡ 0 → closing-cost t log ≡ prices-in t log .hold * window (prices-in t log)
 
 -- THE SHEET'S LAST LINE
-pub close-line : (log : List ℕ) → Accepted built-in log → Close-line log
+pub close-line : (t : Tariff) → Given t → (log : List ℕ) → Accepted t log → Close-line t log
 unfolding closing-cost state-after scans build run opened prices-in
-close-line log a =
+close-line t g log a =
     let n = request-count log in
-    let passes : close-verdict (run (opened log) (all-calls log)) ≡ Passed = closes log a in
-    let w = close-within (setup-of log) (starts log a) (all-calls log) passes in
-    let least : w .claimed .least ≡ getD (least-costs built-in log) n 0 =
-    least-of log n a (omega arith) (w .claimed) ∙ sym (planned-best log n a (omega arith) .least-is) in
+    let passes : close-verdict (run (opened t log) (all-calls log)) ≡ Passed = closes t (given-priced t g) log a in
+    let w = close-within t g (setup-of log) (starts t (given-priced t g) log a) (all-calls log) passes in
+    let least : w .claimed .least ≡ getD (least-costs t log) n 0 =
+    least-of t g log n a (omega arith) (w .claimed) ∙ sym (planned-best t log n a (omega arith) .least-is) in
     record {
       passes = passes;
       answers = w .answers;
       no-less = w .no-less;
       no-more = omega (arith, w .no-more, least);
-      empty = λ e. rw e (close-at-once (setup-of log) (starts log a));
+      empty = λ e. rw e (close-at-once t g (setup-of log) (starts t (given-priced t g) log a));
     }

@@ -9,7 +9,7 @@ use native.Mathlib.Omega.{arith}
 use lib.ListN.{length}
 use Rattle.base.specs.Nearest.{distance}
 use Rattle.prices.specs.declared.Prices.{Prices}
-use Rattle.prices.specs.Tariff.{built-in}
+use Rattle.prices.specs.Tariff.{Tariff}
 use Rattle.log.specs.Fields.{server-count, request-count}
 use Rattle.log.specs.Conditions.{Accepted}
 use Rattle.model.specs.Requests.{Requests, Rising, Within}
@@ -89,8 +89,8 @@ module _ (p : Prices) (count : ℕ) (q : Requests) (n : ℕ) (within : Within co
               }
 
 -- for every accepted log, and so for a cut one
-pub log-sourced : (log : List ℕ) → Accepted built-in log → Sourced (prices-in built-in log) (server-count log) (requests-in log) (request-count log)
-log-sourced log a = sourced (prices-in built-in log) (server-count log) (requests-in log) (request-count log) (log-within built-in log a)
+pub log-sourced : (t : Tariff) (log : List ℕ) → Accepted t log → Sourced (prices-in t log) (server-count log) (requests-in log) (request-count log)
+log-sourced t log a = sourced (prices-in t log) (server-count log) (requests-in log) (request-count log) (log-within t log a)
 
 -- the plan's rows with other holders as sources: as many, well formed, feasible, of the plan's cost
 pub record Any-holder (p : Prices) (count : ℕ) (q : Requests) (n : ℕ) (from : ℕ → ℕ) : Type 0 where
@@ -112,11 +112,11 @@ any-holder p count q n from rising within good =
     }
 
 -- the checker takes them, for every accepted log
-pub any-holder-checked : (log : List ℕ) → Accepted built-in log → (from : ℕ → ℕ)
-    → Good (server-count log) (requests-in log) (plan (prices-in built-in log) (requests-in log) (request-count log)) (request-count log) from
-    → check-answer built-in log
-    (flat (rows-from (requests-in log) (server-count log) (plan (prices-in built-in log) (requests-in log) (request-count log)) (request-count log) from))
-    ≡ answer.Cost (plan-cost (prices-in built-in log) (requests-in log) (request-count log))
-any-holder-checked log a from good =
-    let h = any-holder (prices-in built-in log) (server-count log) (requests-in log) (request-count log) from (log-rising built-in log a) (log-within built-in log a) good in
-    schedule-accepted log _ a (h .formed) (h .feasible) ∙ ap answer.Cost (h .costs)
+pub any-holder-checked : (t : Tariff) (log : List ℕ) → Accepted t log → (from : ℕ → ℕ)
+    → Good (server-count log) (requests-in log) (plan (prices-in t log) (requests-in log) (request-count log)) (request-count log) from
+    → check-answer t log
+    (flat (rows-from (requests-in log) (server-count log) (plan (prices-in t log) (requests-in log) (request-count log)) (request-count log) from))
+    ≡ answer.Cost (plan-cost (prices-in t log) (requests-in log) (request-count log))
+any-holder-checked t log a from good =
+    let h = any-holder (prices-in t log) (server-count log) (requests-in log) (request-count log) from (log-rising t log a) (log-within t log a) good in
+    schedule-accepted t log _ a (h .formed) (h .feasible) ∙ ap answer.Cost (h .costs)

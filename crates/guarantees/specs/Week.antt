@@ -118,10 +118,10 @@ log-of g =
 unfoldable pub right : Week → Bool
 right (planned g least costs closing marks live rows) =
     both (same (least-so-far g) least)
-    (both (same (costs-from (started (g .setup) .cache) (g .seconds) (g .servers)) costs)
-    (both (eqb (close-after (started (g .setup) .cache) (g .seconds) (g .servers)) closing)
+    (both (same (costs-from (started built-in (g .setup) .cache) (g .seconds) (g .servers)) costs)
+    (both (eqb (close-after (started built-in (g .setup) .cache) (g .seconds) (g .servers)) closing)
     (both (same (plan-letters g) marks)
-    (both (same (letters-from (started (g .setup) .cache) (g .seconds) (g .servers)) live)
+    (both (same (letters-from (started built-in (g .setup) .cache) (g .seconds) (g .servers)) live)
     (same (plan-numbers g) rows)))))
 right (checked g rows number place c) = same (answer-numbers (check-answer built-in (log-of g) rows)) (number ∷ place ∷ c ∷ [])
 right (logged g number place) = same (as-numbers (verdict-of built-in (log-of g))) (number ∷ place ∷ [])
@@ -129,7 +129,7 @@ right (tied g c n) =
     let q = requests-given g in
     let k = length (g .seconds) in
     eqb (total (λ m. pick (eqb (cost (prices-of classes (g .setup .«class»)) q m k) c) 1 0) (markings q k)) n
-right (printed g text) = same (output (log-of g)) (ascii text)
+right (printed g text) = same (output built-in (log-of g)) (ascii text)
 
 -- every week of a table is right
 unfoldable pub all-right : List Week → Bool

@@ -2,7 +2,7 @@
 ghost use mathlib.Core.Path.{_≡_};
 ghost use mathlib.Core.Bool.{not};
 ghost use Prim.Native.Nat.{suc, _+_, _*_, _<_, _≤_};
-ghost use lib.Dec.{ltb, eqb};
+ghost use lib.Dec.{leb, ltb, eqb};
 ghost use lib.ListN.{length};
 ghost use Rattle.base.specs.Choice.{either};
 ghost use Rattle.base.specs.Refusals.{first, otherwise, each, from};
@@ -45,11 +45,18 @@ fn count_outside(count: u8) -> bool
     64 < count
 }
 
+// The class is none of so many.
+fn class_outside(count: u16, class: u8) -> bool
+    ensures { λ r. ⌜ r ≡ leb count class ⌝ }
+{
+    count <= u16_from_u8(class)
+}
+
 // 3 to 5.
 pub fn setup_fault(v: Verdict, prices: &[u8], setup: Setup) -> Verdict
     ensures { λ r. ⌜ r ≡ from v (setup-conditions (table-in (now (prices .entry))) setup) ⌝ }
 {
-    let v = or_else(v, class_count(prices) <= u16_from_u8(setup.class), 3, 0);
+    let v = or_else(v, class_outside(class_count(prices), setup.class), 3, 0);
     let v = or_else(v, count_outside(setup.server_count), 4, 0);
     or_else(v, setup.server_count <= setup.home, 5, 0)
 }

@@ -1,10 +1,10 @@
 -- What a start, a scan, the running cost and a close answer, and the state that they give back: unchanged where refused, zeros for a start. Assumes nothing.
 use Prim.Native.Nat.{ℕ}
 use Rattle.base.specs.Choice.{pick}
-use Rattle.base.specs.Refusals.{first}
+use Rattle.base.specs.Refusals.{first, otherwise}
 use Rattle.base.specs.declared.Verdict.{Verdict}
 use Rattle.base.specs.declared.Verdict.the-variants.{Passed, Refused}
-use Rattle.prices.specs.Prices.{classes}
+use Rattle.prices.specs.Tariff.{Tariff}
 use Rattle.log.specs.declared.Setup.{Setup}
 use Rattle.log.specs.Conditions.{setup-conditions}
 use Rattle.online.specs.declared.Cache.{Cache}
@@ -20,9 +20,9 @@ use Rattle.online.specs.declared.Closed.{Closed}
 use Rattle.online.specs.Rules.{fresh, zeros, kept, accept, running, closing, shut}
 use Rattle.online.specs.Conditions.{scan-conditions, running-conditions, close-conditions}
 
--- what refuses a start: the first condition that holds
-unfoldable pub start-verdict : Setup → Verdict
-start-verdict s = first (setup-conditions classes s)
+-- what refuses a start: what its price file is answered, else the first condition that holds
+unfoldable pub start-verdict : Tariff → Setup → Verdict
+start-verdict t s = otherwise (t .judged) (first (setup-conditions (t .table) s))
 
 -- what refuses a scan
 unfoldable pub scan-verdict : Cache → ℕ → ℕ → Verdict
@@ -37,13 +37,13 @@ unfoldable pub close-verdict : Cache → Verdict
 close-verdict c = first (close-conditions c)
 
 -- a start by its verdict: ready, or refused with a state of zeros
-unfoldable pub started-by : Verdict → Setup → Started
-started-by Passed s = record { cache = fresh s; outcome = start.Ready }
-started-by (Refused r) s = record { cache = zeros; outcome = start.Refused r }
+unfoldable pub started-by : Verdict → Tariff → Setup → Started
+started-by Passed t s = record { cache = fresh (t .table) s; outcome = start.Ready }
+started-by (Refused r) t s = record { cache = zeros; outcome = start.Refused r }
 
 -- a start
-unfoldable pub started : Setup → Started
-started s = started-by (start-verdict s) s
+unfoldable pub started : Tariff → Setup → Started
+started t s = started-by (start-verdict t s) t s
 
 -- K, or S from the last server, with a cost
 unfoldable pub mark-outcome : Cache → ℕ → ℕ → ℕ → ScanOutcome

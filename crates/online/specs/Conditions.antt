@@ -1,10 +1,11 @@
--- The conditions of a scan, of the running cost and of a close, in 01's order; those of a start are log's setup-conditions (3, 4, 5). Assumes nothing.
+-- The conditions of a scan, of the running cost and of a close, in 01's order; those of a start are prices' file-conditions and log's setup-conditions (37, 38, 3, 4, 5). Assumes nothing.
 use mathlib.Core.Bool.{Bool, false, not}
 use mathlib.Core.List.{List, [], _∷_}
 use Prim.Native.Nat.{ℕ, _+_}
 use lib.Dec.{leb, ltb, eqb}
 use Rattle.base.specs.Choice.{both, either}
 use Rattle.base.specs.Refusals.{Condition, refuse}
+use Rattle.prices.specs.Prices.{outside}
 use Rattle.online.specs.declared.Cache.{Cache}
 use Rattle.online.specs.Servers.{some-server}
 use Rattle.online.specs.Rules.{window-of, copy-at, use-at}
@@ -28,11 +29,11 @@ server-faults c y =
 unfoldable pub server-broken : Cache → ℕ → Bool
 server-broken c y = any-of (server-faults c y)
 
--- what can be wrong with a state: no such class, a count that is not 1 to 64, a second past 4,000,000; the last server not below the count, without
+-- what can be wrong with a state: a price that is 0 or above 1,000,000, a count that is not 1 to 64, a second past 4,000,000; the last server not below the count, without
 -- a copy, or not used at the last second; more than 2,048 requests, more transfers than requests, more than 256,000,000 held; a server at fault
 abbrev pub faults : Cache → List Bool
 faults c =
-    ltb 7 (c .«class»)
+    outside (c .prices)
     ∷ either (eqb (c .«server_count») 0) (ltb 64 (c .«server_count»))
     ∷ ltb 4000000 (c .second)
     ∷ leb (c .«server_count») (c .last)

@@ -10,6 +10,7 @@ use lib.Dec.{ltb, eqb}
 use borrow.Author.Tests.{leb-false, ltb-false, eqb-true, eqb-false, not-true, not-false, lt-leb, le-ltb, eq-eqb, ne-eqb}
 use Rattle.base.specs.Choice.{both, same-or-not, true-or-false, not-both}
 use Rattle.base.specs.ChoiceLaws.{either-false, neither-of}
+use Rattle.prices.specs.PriceLaws.{In-range, in-range}
 use Rattle.online.specs.declared.Cache.{Cache}
 use Rattle.online.specs.ServerLaws.{some-server-none, some-server-each}
 use Rattle.online.specs.Rules.{window-of, copy-at, use-at}
@@ -53,7 +54,7 @@ pub record Intact-server (c : Cache) (y : ℕ) : Type 0 where
 
 -- such a state
 pub record Intact (c : Cache) : Type 0 where
-  pub class-in : c .«class» ≤ 7
+  pub priced : In-range (c .prices)
   pub count-least : 1 ≤ c .«server_count»
   pub count-most : c .«server_count» ≤ 64
   pub second-most : c .second ≤ 4000000
@@ -104,7 +105,7 @@ pub intact-unbroken : (c : Cache) → Intact c → broken c ≡ false
 unfolding broken
 intact-unbroken c s =
     none-holds (faults c)
-    (le-ltb _ _ (s .class-in)
+    (in-range (c .prices) .1 (s .priced)
     also neither-of (ne-eqb (c .«server_count») 0 (λ e. omega (arith, s .count-least))) (le-ltb _ _ (s .count-most))
     also le-ltb _ _ (s .second-most)
     also lt-leb _ _ (s .last-counted)
@@ -123,7 +124,7 @@ unbroken-intact c h =
     let f = each-fails (faults c) h in
     let n = either-false (eqb (c .«server_count») 0) (ltb 64 (c .«server_count»)) (f 1) in
     record {
-      class-in = ltb-false _ _ (f 0);
+      priced = in-range (c .prices) .0 (f 0);
       count-least = let z : c .«server_count» ≢ 0 = eqb-false _ _ (n .0) in omega arith;
       count-most = ltb-false _ _ (n .1);
       second-most = ltb-false _ _ (f 2);

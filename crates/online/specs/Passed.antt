@@ -1,32 +1,32 @@
 -- What a start, a scan and a close have that are not refused.
 use mathlib.Core.Bool.{false}
-use mathlib.Core.Logic.{_≢_, _↔_}
+use mathlib.Core.Logic.{_≢_}
 use mathlib.Core.Path.{_≡_}
 use native.Mathlib.Omega.{arith}
 use Prim.Native.Nat.{ℕ, _≤_, _<_}
 use lib.Dec.{ltb, eqb}
-use lib.ListN.{length}
 use borrow.Author.Tests.{leb-false, ltb-false, eqb-false}
 use Rattle.base.specs.ChoiceLaws.{either-false}
-use Rattle.base.specs.RefusalLaws.{first-passed}
+use Rattle.base.specs.RefusalLaws.{first-passed, otherwise-passed}
 use Rattle.base.specs.declared.Verdict.the-variants.{Passed}
-use Rattle.prices.specs.Prices.{classes}
+use Rattle.prices.specs.Prices.{prices-of}
+use Rattle.prices.specs.PriceLaws.{In-range, Priced}
+use Rattle.prices.specs.Tariff.{Tariff}
 use Rattle.log.specs.declared.Setup.{Setup}
 use Rattle.log.specs.Ranges.{Allowed}
 use Rattle.log.specs.AcceptedLaws.{setup-allowed}
 use Rattle.online.specs.declared.Cache.{Cache}
-use Rattle.online.specs.Conditions.{scan-conditions, close-conditions}
-use Rattle.online.specs.Answers.{start-verdict, scan-verdict, close-verdict}
+use Rattle.online.specs.Conditions.{scan-conditions, running-conditions, close-conditions}
+use Rattle.online.specs.Answers.{start-verdict, scan-verdict, running-verdict, close-verdict}
 use Rattle.online.specs.Intact.{Intact, unbroken-intact}
 
--- a class of the table, and the rest allowed
-abbrev pub Startable : Setup → Type 0
-Startable s = (s .«class» < length classes) × Allowed s
-
--- a start that is not refused is given these
-pub start-passed : (s : Setup) → (start-verdict s ≡ Passed) ↔ Startable s
+-- a start that is not refused is given what is allowed, and prices in range
+pub start-passed : (t : Tariff) → Priced t → (s : Setup) → start-verdict t s ≡ Passed → Allowed s × In-range (prices-of (t .table) (s .«class»))
 unfolding start-verdict
-start-passed = setup-allowed classes
+start-passed t p s e =
+    let (j, f) = otherwise-passed (t .judged) _ e in
+    let (l, a) = setup-allowed (t .table) s .0 f in
+    (a, p j (s .«class») l)
 
 -- state, second and server of a scan that is not refused
 pub record Fit (c : Cache) (second server : ℕ) : Type 0 where
@@ -53,6 +53,11 @@ scan-passed c second server e =
       room = leb-false _ _ (f 4);
       later = leb-false _ _ (f 5);
     }
+
+-- the state of a running cost that is not refused: intact
+pub running-passed : (c : Cache) → running-verdict c ≡ Passed → Intact c
+unfolding running-verdict running-conditions
+running-passed c e = unbroken-intact c (first-passed (running-conditions c) .0 e 0)
 
 -- the state of a close that is not refused: intact, and not closed
 pub close-passed : (c : Cache) → close-verdict c ≡ Passed → Intact c × (c .closed ≡ false)

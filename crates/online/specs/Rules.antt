@@ -1,5 +1,6 @@
 -- The rules of the online cache, in the order of 01's 'The live keeper': a start, one request, the close (02's Req 02). Assumes nothing.
 use mathlib.Core.Bool.{Bool, true, false}
+use mathlib.Core.List.{List}
 use Prim.Native.Nat.{ℕ, suc, _+_, _-_, _*_, min}
 use lib.Dec.{leb, eqb}
 use lib.ListN.{getD}
@@ -7,20 +8,16 @@ use Rattle.base.specs.Choice.{pick, both, either}
 use Rattle.base.specs.Sets.{has}
 use Rattle.base.specs.Lists.{build}
 use Rattle.prices.specs.declared.Prices.{Prices}
-use Rattle.prices.specs.Prices.{classes, prices-of, window}
+use Rattle.prices.specs.Prices.{priced, prices-of, window}
 use Rattle.log.specs.declared.Setup.{Setup}
 use Rattle.online.specs.declared.Cache.{Cache}
 use Rattle.online.specs.Servers.{across, set-of}
 
 -- ---- what a state says
 
--- the prices of its class
-unfoldable pub class-prices : Cache → Prices
-class-prices c = prices-of classes (c .«class»)
-
--- and their window
+-- the window of its prices
 unfoldable pub window-of : Cache → ℕ
-window-of c = window (class-prices c)
+window-of c = window (c .prices)
 
 -- a copy stands at server y: y is in the word
 unfoldable pub copy-at : Cache → ℕ → Bool
@@ -32,11 +29,11 @@ use-at c y = getD (c .«last_use») y 0
 
 -- ---- a start
 
--- the copy at home, last use 0, home as last server, last second 0, no requests, transfers or held seconds, not closed
-unfoldable pub fresh : Setup → Cache
-fresh s =
+-- the prices of the class, the copy at home, last use 0, home as last server, last second 0, no requests, transfers or held seconds, not closed
+unfoldable pub fresh : List Prices → Setup → Cache
+fresh table s =
     record {
-      «class» = s .«class»;
+      prices = prices-of table (s .«class»);
       «server_count» = s .«server_count»;
       last = s .home;
       second = 0;
@@ -52,7 +49,7 @@ fresh s =
 unfoldable pub zeros : Cache
 zeros =
     record {
-      «class» = 0;
+      prices = priced 0 0;
       «server_count» = 0;
       last = 0;
       second = 0;
@@ -95,7 +92,7 @@ seconds c τ y =
 unfoldable pub accept : Cache → ℕ → ℕ → Cache
 accept c τ x =
     record {
-      «class» = c .«class»;
+      prices = c .prices;
       «server_count» = c .«server_count»;
       last = x;
       second = τ;
@@ -111,7 +108,7 @@ accept c τ x =
 
 -- the running cost (01: running bill): all holding up to the last request, and all transfers
 unfoldable pub running : Cache → ℕ
-running c = class-prices c .hold * c .held + class-prices c .transfer * c .transfers
+running c = c .prices .hold * c .held + c .prices .transfer * c .transfers
 
 -- what is left of the window of the copy at y when the last request has been served: its last use plus the window, less the last second; 0 where no
 -- copy stands
@@ -120,13 +117,13 @@ remaining c y = pick (copy-at c y) (use-at c y + window-of c - c .second) 0
 
 -- the closing cost (02: closing bill): the running cost, and the holding of each standing copy to its end
 unfoldable pub closing : Cache → ℕ
-closing c = running c + class-prices c .hold * across 64 (remaining c)
+closing c = running c + c .prices .hold * across 64 (remaining c)
 
 -- the same state, now closed
 unfoldable pub shut : Cache → Cache
 shut c =
     record {
-      «class» = c .«class»;
+      prices = c .prices;
       «server_count» = c .«server_count»;
       last = c .last;
       second = c .second;

@@ -12,7 +12,6 @@ use crate::Closed;
 use crate::conditions::close_fault;
 use crate::running::running_cost;
 use crate::state::Outline;
-use crate::state::class_prices;
 use crate::state::expiry;
 use crate::state::member;
 use crate::state::outline_of;
@@ -64,7 +63,7 @@ fn closing_cost(cache: Cache) -> u64
     requires { ⌜ Intact cache ⌝ }
     ensures { λ r. ⌜ r ≡ closing cache ⌝ }
 {
-    let prices = class_prices(cache);
+    let prices = cache.prices;
     let left = all_remaining(cache, outline_of(cache));
     running_cost(cache) + u64_from_u32(prices.hold) * left
 }

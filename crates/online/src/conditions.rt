@@ -2,6 +2,7 @@
 ghost use mathlib.Core.Path.{_≡_};
 ghost use lib.Dec.{ltb, eqb};
 ghost use Rattle.base.specs.Choice.{either};
+ghost use Rattle.prices.specs.Prices.{outside};
 ghost use Rattle.online.specs.Servers.{some-server};
 ghost use Rattle.online.specs.Conditions.{server-broken, broken};
 ghost use Rattle.online.specs.Answers.{scan-verdict, running-verdict, close-verdict};
@@ -37,6 +38,14 @@ fn count_outside(count: u8) -> bool
     ensures { λ r. ⌜ r ≡ either (eqb count 0) (ltb 64 count) ⌝ }
 {
     outside(count as u32, 64)
+}
+
+// A price of the state is 0 or above 1,000,000.
+fn price_outside(cache: Cache) -> bool
+    ensures { λ r. ⌜ r ≡ outside (cache .prices) ⌝ }
+{
+    let prices = cache.prices;
+    prices::outside(prices)
 }
 
 // Server y is at fault: a copy at or above the count, a last use after the last second, a copy expired before it, or a last use without a copy.
@@ -96,7 +105,7 @@ fn broken(cache: Cache, o: Outline) -> bool
     ensures { λ r. ⌜ r ≡ broken cache ⌝ }
 {
     let last = cache.last;
-    if 7 < cache.class {
+    if price_outside(cache) {
         return true;
     }
     if count_outside(cache.server_count) {

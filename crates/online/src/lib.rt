@@ -7,12 +7,13 @@ mod start;
 mod state;
 
 use base::Refusal;
+use prices::Prices;
 
 // The state (01's 'The live keeper'). Every field is public, so that a caller can hand in any state; its layout is C's.
 #[repr(C)]
 pub struct Cache {
-    // the price class
-    pub class: u8,
+    // the hold and the transfer price (01: keep and send)
+    pub prices: Prices,
     // the number of servers (01: stations)
     pub server_count: u8,
     // the server of the last request (01: scan), home before any

@@ -1,12 +1,12 @@
 // The running cost (01: running bill).
 ghost use mathlib.Core.Path.{_≡_};
 ghost use Prim.Native.Nat.{_*_};
+ghost use Rattle.prices.specs.PriceLaws.{In-range};
 ghost use Rattle.online.specs.Rules.{running};
 ghost use Rattle.online.specs.Answers.{running-answer};
 use crate::Cache;
 use crate::RunningCost;
 use crate::conditions::state_fault;
-use crate::state::class_prices;
 use base::Verdict;
 use base::widths::u64_from_u32;
 
@@ -18,10 +18,11 @@ fn times(price: u32, n: u32) -> u64
 }
 
 // All holding up to the last request, and all transfers.
-pub fn running_cost(cache: Cache) -> u64
+pub(crate) fn running_cost(cache: Cache) -> u64
+    requires { ⌜ In-range (cache .prices) ⌝ }
     ensures { λ r. ⌜ r ≡ running cache ⌝ }
 {
-    let prices = class_prices(cache);
+    let prices = cache.prices;
     times(prices.hold, cache.held) + times(prices.transfer, cache.transfers)
 }
 

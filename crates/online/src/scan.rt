@@ -162,8 +162,9 @@ fn accept(cache: Cache, o: Outline, q: Served) -> Cache
         held = seconds(o, used, q.second, y) + held;
         left = cut(left, y);
     }
+    let prices = cache.prices;
     Cache {
-        class: cache.class,
+        prices,
         server_count: cache.server_count,
         last: q.server,
         second: q.second,

@@ -1,5 +1,7 @@
-// A start: the copy at home, or 3 to 5.
+// A start: the copy at home, or 37, 38, 3 to 5.
 ghost use mathlib.Core.Path.{_≡_};
+ghost use Rattle.prices.specs.PriceFile.{table-in};
+ghost use Rattle.prices.specs.Tariff.{tariff, built-in, price-file};
 ghost use Rattle.online.specs.Rules.{fresh, zeros};
 ghost use Rattle.online.specs.Answers.{started};
 use crate::Cache;
@@ -10,15 +12,18 @@ use base::sets::put;
 use base::widths::u16_from_u8;
 use log::Setup;
 use log::setup_fault;
+use prices::Prices;
 use prices::built_in;
+use prices::file_fault;
+use prices::of_class;
 
-// The copy at home, home as the last server, and nothing counted yet.
-fn fresh(setup: Setup) -> Cache
-    ensures { λ r. ⌜ r ≡ fresh setup ⌝ }
+// The prices of the class, the copy at home, home as the last server, and nothing counted yet.
+fn fresh(prices: &[u8], setup: Setup) -> Cache
+    ensures { λ r. ⌜ r ≡ fresh (table-in (now (prices .entry))) setup ⌝ }
 {
     let last = u16_from_u8(setup.home);
     Cache {
-        class: setup.class,
+        prices: of_class(prices, setup.class),
         server_count: setup.server_count,
         last,
         second: 0,
@@ -36,7 +41,10 @@ fn zeros() -> Cache
     ensures { λ r. ⌜ r ≡ zeros ⌝ }
 {
     Cache {
-        class: 0,
+        prices: Prices {
+            hold: 0,
+            transfer: 0,
+        },
         server_count: 0,
         last: 0,
         second: 0,
@@ -49,24 +57,38 @@ fn zeros() -> Cache
     }
 }
 
+// A fresh state by a price file and what that was answered, or a refusal and a state of zeros.
+fn start_by(v: Verdict, prices: &[u8], setup: Setup) -> Started
+    ensures { λ r. ⌜ r ≡ started (tariff v (table-in (now (prices .entry)))) setup ⌝ }
+{
+    let v = setup_fault(v, prices, setup);
+    if let Verdict::Refused(r) = v {
+        let blank = zeros();
+        return Started {
+            cache: blank,
+            outcome: StartOutcome::Refused(r),
+        };
+    }
+    let ready = fresh(prices, setup);
+    Started {
+        cache: ready,
+        outcome: StartOutcome::Ready,
+    }
+}
+
 impl Cache {
-    // A fresh state, or 3 to 5 and a state of zeros.
+    // A start by the built-in table: 3 to 5.
     pub fn start(setup: Setup) -> Started
-        ensures { λ r. ⌜ r ≡ started setup ⌝ }
+        ensures { λ r. ⌜ r ≡ started built-in setup ⌝ }
     {
         let prices = built_in();
-        let v = setup_fault(Verdict::Passed, &prices, setup);
-        if let Verdict::Refused(r) = v {
-            let blank = zeros();
-            return Started {
-                cache: blank,
-                outcome: StartOutcome::Refused(r),
-            };
-        }
-        let ready = fresh(setup);
-        Started {
-            cache: ready,
-            outcome: StartOutcome::Ready,
-        }
+        start_by(Verdict::Passed, &prices, setup)
+    }
+
+    // A start by a price file: 37, 38, 3 to 5.
+    pub fn start_with(prices: &[u8], setup: Setup) -> Started
+        ensures { λ r. ⌜ r ≡ started (price-file (now (prices .entry))) setup ⌝ }
+    {
+        start_by(file_fault(prices), prices, setup)
     }
 }

@@ -1,19 +1,16 @@
-// What a state says of its class and of each server. A server from 64 on has no copy and no last use.
+// What a state says of its prices and of each server. A server from 64 on has no copy and no last use.
 ghost use mathlib.Core.Bool.{true};
 ghost use mathlib.Core.Logic.{_≢_};
 ghost use mathlib.Core.Path.{_≡_};
 ghost use Prim.Native.Nat.{_+_, _<_};
 ghost use Rattle.base.specs.Sets.{has};
-ghost use Rattle.online.specs.Rules.{class-prices, window-of, copy-at, use-at};
+ghost use Rattle.online.specs.Rules.{window-of, copy-at, use-at};
 ghost use Rattle.online.specs.Serving.{Outlines};
 use crate::Cache;
 use base::sets::has;
 use base::sets::lowest;
 use base::widths::u16_from_u8;
 use base::widths::u64_from_u32;
-use prices::Prices;
-use prices::built_in;
-use prices::of_class;
 use prices::window;
 
 // What a state says of all its servers at once: no last uses.
@@ -25,19 +22,11 @@ pub struct Outline {
     pub window: u32,
 }
 
-// The prices of the state's class.
-pub(crate) fn class_prices(cache: Cache) -> Prices
-    ensures { λ r. ⌜ r ≡ class-prices cache ⌝ }
-{
-    let table = built_in();
-    of_class(&table, cache.class)
-}
-
-// Their window.
+// The window of the state's prices.
 fn window_of(cache: Cache) -> u32
     ensures { λ r. ⌜ r ≡ window-of cache ⌝ }
 {
-    window(class_prices(cache))
+    window(cache.prices)
 }
 
 // The outline of a state.

@@ -11,6 +11,13 @@ use Rattle.base.specs.Lists.{build}
 use Rattle.prices.specs.declared.Prices.{Prices}
 use Rattle.prices.specs.Prices.{priced, outside}
 
+-- how many classes a file has at most, and how many bytes
+abbrev pub most-classes : ℕ
+most-classes = 256
+
+abbrev pub price-room : ℕ
+price-room = 4 + 8 * most-classes
+
 -- count of classes, 16 bits
 unfoldable pub class-count : List ℕ → ℕ
 class-count file = le16 file 0
@@ -32,7 +39,7 @@ abbrev pub form-condition : List ℕ → Condition
 form-condition file =
     refuse 37 0
     (either (ltb (length file) 4)
-    (either (either (eqb (class-count file) 0) (ltb 256 (class-count file)))
+    (either (either (eqb (class-count file) 0) (ltb most-classes (class-count file)))
     (either (not (eqb (prices-offset file) 4)) (not (eqb (length file) (4 + 8 * class-count file))))))
 
 -- 38 a price out of range; its place is the class, from 0

@@ -1,7 +1,7 @@
 -- What a call takes its prices from: a price file where one is given, else the built-in table. Assumes nothing.
-use mathlib.Core.List.{List}
+use mathlib.Core.List.{List, []}
 use Prim.Native.Nat.{ℕ}
-use Rattle.base.specs.Refusals.{first}
+use Rattle.base.specs.Refusals.{Condition, first}
 use Rattle.base.specs.declared.Verdict.{Verdict}
 use Rattle.base.specs.declared.Verdict.the-variants.{Passed}
 use Rattle.prices.specs.declared.Prices.{Prices}
@@ -28,3 +28,8 @@ price-file file = tariff (first (file-conditions file)) (table-in file)
 pub data Given : Tariff → Type 0 where
   none : Given built-in
   file : (bytes : List ℕ) → Given (price-file bytes)
+
+-- the conditions that come before a call's own: the price file's, where one is given
+unfoldable pub conditions-of : {t : Tariff} → Given t → List Condition
+conditions-of none = []
+conditions-of (file bytes) = file-conditions bytes

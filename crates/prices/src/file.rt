@@ -1,11 +1,15 @@
 // Price files (02's Req 05): the count of classes, the offset of the prices, then hold and transfer price of each class. The built-in table is one.
 ghost use mathlib.Core.Path.{_≡_};
 ghost use Prim.Native.Nat.{_+_, _*_, _<_, _≤_};
+ghost use mathlib.Core.Bool.{not};
+ghost use lib.Dec.{eqb};
 ghost use lib.ListN.{length};
+ghost use Rattle.base.specs.declared.Verdict.the-variants.{Refused};
 ghost use Rattle.base.specs.Refusals.{first, each};
 ghost use Rattle.prices.specs.Prices.{prices-of};
-ghost use Rattle.prices.specs.PriceFile.{class-count, pair-at, table-in, form-condition, pair-condition, file-conditions};
+ghost use Rattle.prices.specs.PriceFile.{class-count, prices-offset, pair-at, table-in, form-condition, pair-condition, file-conditions};
 ghost use Rattle.prices.specs.FileLaws.{built-in-bytes};
+use crate::MOST_CLASSES;
 use crate::Prices;
 use crate::outside;
 use base::Refusal;
@@ -16,8 +20,13 @@ use base::widths::size_from_u16;
 use base::widths::u16_from_u8;
 use base::widths::u64_from_u16;
 
-// The built-in table as a price file.
-const BUILT_IN: [u8; 68] = [
+// The most classes of a price file, as it has them.
+const MOST: u16 = MOST_CLASSES as u16;
+
+// The built-in table as a price file, and its length.
+pub const BUILT_IN_LENGTH: usize = 68;
+
+const BUILT_IN: [u8; BUILT_IN_LENGTH] = [
     8,
     0,
     4,
@@ -88,7 +97,7 @@ const BUILT_IN: [u8; 68] = [
     0,
 ];
 
-pub fn built_in() -> [u8; 68]
+pub fn built_in() -> [u8; BUILT_IN_LENGTH]
     ensures { λ r. ⌜ r ≡ built-in-bytes ⌝ }
 {
     BUILT_IN
@@ -113,6 +122,20 @@ fn pair_at(file: &[u8], class: u16) -> Prices
     }
 }
 
+// The prices do not begin where the format says.
+fn offset_differs(file: &[u8]) -> bool
+    ensures { λ r. ⌜ r ≡ not (eqb (prices-offset (now (file .entry))) 4) ⌝ }
+{
+    at16(file, 2) != 4
+}
+
+// The length is not that of n classes.
+fn length_differs(file: &[u8], n: u16) -> bool
+    ensures { λ r. ⌜ r ≡ not (eqb (length (now (file .entry))) (4 + 8 * n)) ⌝ }
+{
+    file.len() != 4 + 8 * size_from_u16(n)
+}
+
 // Count, offset or length are not as the format says.
 fn misformed(file: &[u8]) -> bool
     ensures { λ r. ⌜ r ≡ form-condition (now (file .entry)) .holds ⌝ }
@@ -124,13 +147,23 @@ fn misformed(file: &[u8]) -> bool
     if n == 0 {
         return true;
     }
-    if 256 < n {
+    if MOST < n {
         return true;
     }
-    if at16(file, 2) != 4 {
+    if offset_differs(file) {
         return true;
     }
-    file.len() != 4 + 8 * size_from_u16(n)
+    length_differs(file, n)
+}
+
+// 38 at a class.
+fn price_refused(class: u16) -> Verdict
+    ensures { λ r. ⌜ r ≡ Refused (record { number = 38; place = class }) ⌝ }
+{
+    Verdict::Refused(Refusal {
+        number: 38,
+        place: u64_from_u16(class),
+    })
 }
 
 // 38 for each class.
@@ -142,10 +175,7 @@ fn pairs_fault(file: &[u8]) -> Verdict
     let mut class: u16 = 0;
     while class < n {
         if outside(pair_at(file, class)) {
-            return Verdict::Refused(Refusal {
-                number: 38,
-                place: u64_from_u16(class),
-            });
+            return price_refused(class);
         }
         class += 1;
     }

@@ -5,6 +5,7 @@ ghost use mathlib.Core.Path.{_≡_};
 ghost use lib.Dec.{ltb, eqb};
 ghost use Rattle.base.specs.Choice.{either};
 ghost use Rattle.prices.specs.Prices.{outside, window};
+pub use file::BUILT_IN_LENGTH;
 pub use file::built_in;
 pub use file::class_count;
 pub use file::file_fault;
@@ -16,6 +17,12 @@ pub struct Prices {
     pub hold: u32,
     pub transfer: u32,
 }
+
+// The most classes of a price file.
+pub const MOST_CLASSES: usize = 256;
+
+// Room for any price file.
+pub const PRICE_ROOM: usize = 4 + 8 * MOST_CLASSES;
 
 // A price is 0 or above 1,000,000.
 fn price_outside(price: u32) -> bool

@@ -4,6 +4,7 @@ use Prim.Native.Nat.{ℕ, suc}
 use lib.ListN.{getD}
 use Rattle.base.specs.Choice.{pick}
 use Rattle.base.specs.Lists.{build}
+use Rattle.prices.specs.Tariff.{Tariff}
 use Rattle.log.specs.Fields.{setup-of, request-count, seconds-of, servers-of}
 use Rattle.online.specs.declared.Cache.{Cache}
 use Rattle.online.specs.Rules.{kept, running, closing}
@@ -29,17 +30,17 @@ unfoldable pub live-cost : Cache → List ℕ → List ℕ → ℕ → ℕ
 live-cost c seconds servers i = running (state-after c seconds servers (suc i))
 
 -- a start with what a log says
-unfoldable pub opened : List ℕ → Cache
-opened log = started (setup-of log) .cache
+unfoldable pub opened : Tariff → List ℕ → Cache
+opened t log = started t (setup-of log) .cache
 
 -- the marks of a log's requests
-unfoldable pub live-marks : List ℕ → List ℕ
-live-marks log = build (request-count log) (live-mark (opened log) (seconds-of log) (servers-of log))
+unfoldable pub live-marks : Tariff → List ℕ → List ℕ
+live-marks t log = build (request-count log) (live-mark (opened t log) (seconds-of log) (servers-of log))
 
 -- the running costs of its first requests
-unfoldable pub running-costs : List ℕ → List ℕ
-running-costs log = build (request-count log) (live-cost (opened log) (seconds-of log) (servers-of log))
+unfoldable pub running-costs : Tariff → List ℕ → List ℕ
+running-costs t log = build (request-count log) (live-cost (opened t log) (seconds-of log) (servers-of log))
 
 -- the closing cost after all of them
-unfoldable pub closing-cost : List ℕ → ℕ
-closing-cost log = closing (state-after (opened log) (seconds-of log) (servers-of log) (request-count log))
+unfoldable pub closing-cost : Tariff → List ℕ → ℕ
+closing-cost t log = closing (state-after (opened t log) (seconds-of log) (servers-of log) (request-count log))

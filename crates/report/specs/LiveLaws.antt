@@ -11,13 +11,16 @@ use Rattle.base.specs.Refusals.{first}
 use Rattle.base.specs.Lists.{build}
 use Rattle.base.specs.declared.Verdict.{Verdict}
 use Rattle.base.specs.declared.Verdict.the-variants.{Passed}
-use Rattle.prices.specs.Tariff.{built-in}
-use Rattle.log.specs.Fields.{setup-of, request-count, seconds-of, servers-of}
+use Rattle.prices.specs.Prices.{prices-of}
+use Rattle.prices.specs.PriceLaws.{In-range, Priced}
+use Rattle.prices.specs.Tariff.{Tariff}
+use Rattle.log.specs.Fields.{class-of, setup-of, request-count, seconds-of, servers-of}
 use Rattle.log.specs.Conditions.{Accepted}
 use Rattle.log.specs.Ranges as ranges
 use Rattle.log.specs.AcceptedLaws as accepted
 use Rattle.model.specs.Requests.{Requests, requests}
-use Rattle.model.specs.LogRequests.{requests-in}
+use Rattle.model.specs.LogRequests.{requests-in, prices-in}
+use Rattle.model.specs.LogRequestLaws.{log-priced}
 use Rattle.online.specs.declared.Cache.{Cache}
 use Rattle.online.specs.declared.ScanOutcome.the-variants as scan′
 use Rattle.online.specs.Rules.{fresh, kept, accept, running}
@@ -25,7 +28,6 @@ use Rattle.online.specs.Conditions.{scan-conditions, close-conditions}
 use Rattle.online.specs.Answers.{start-verdict, scan-verdict, close-verdict, started, started-by, mark-outcome, scanned, scanned-by}
 use Rattle.bounds.specs.Calls.{Call, scan, after, run}
 use Rattle.bounds.specs.CallLaws.{after-scan}
-use Rattle.online.specs.Passed.{Startable, start-passed}
 use Rattle.online.specs.Intact.{Intact, intact-unbroken}
 use Rattle.bounds.specs.Reached.{Reached, reached-fresh, reached-scan, reached-intact}
 use Rattle.report.specs.declared.live.Turn.{Turn}
@@ -95,28 +97,31 @@ unfolding scan-verdict scan-conditions first
 scan-passes c second server a b d s e f g =
     rw (lt-leb _ _ a, ne-eqb second 0 (λ z. omega arith), le-ltb _ _ d, intact-unbroken c s, lt-leb _ _ f, lt-leb _ _ g, e)
 
-module _ (log : List ℕ) (a : Accepted built-in log) where
+module _ (t : Tariff) (priced : Priced t) (log : List ℕ) (a : Accepted t log) where
   -- what the log has
   abbrev facts : ranges.Sound log
-  facts = accepted.accepted-sound built-in log a
-
-  allowed : Startable (setup-of log)
-  allowed = (accepted.accepted-class built-in log a, facts .setup)
+  facts = accepted.accepted-sound t log a
 
   abbrev q : Requests
   q = requests-in log
 
   -- its start is not refused
-  pub starts : start-verdict (setup-of log) ≡ Passed
-  starts = start-passed (setup-of log) .1 allowed
+  pub starts : start-verdict t (setup-of log) ≡ Passed
+  unfolding start-verdict
+  starts = rw (accepted.accepted-judged t log a) (accepted.setup-allowed (t .table) (setup-of log) .1 (accepted.accepted-class t log a, facts .setup))
 
-  pub opened-fresh : opened log ≡ fresh (setup-of log)
+  -- with prices in range
+  range : In-range (prices-of (t .table) (class-of log))
+  unfolding prices-in
+  range = log-priced t priced log a
+
+  pub opened-fresh : opened t log ≡ fresh (t .table) (setup-of log)
   unfolding opened started started-by
-  opened-fresh = ap (λ (v : Verdict). started-by v (setup-of log) .cache) starts
+  opened-fresh = ap (λ (v : Verdict). started-by v t (setup-of log) .cache) starts
 
   -- the state after its first k requests
   abbrev state : ℕ → Cache
-  state k = state-after (opened log) (seconds-of log) (servers-of log) k
+  state k = state-after (opened t log) (seconds-of log) (servers-of log) k
 
   abbrev second : ℕ → ℕ
   second k = getD (seconds-of log) k 0
@@ -126,12 +131,12 @@ module _ (log : List ℕ) (a : Accepted built-in log) where
 
   -- it is the one that the history of the log's requests gives, and it is not closed
   pub record At (k : ℕ) : Type 0 where
-    pub reached : Reached (setup-of log) q (state k) k
+    pub reached : Reached (t .table) (setup-of log) q (state k) k
     pub unclosed : state k .closed ≡ false
 
   -- 32 does not hold of it
   intact-at : (k : ℕ) → At k → Intact (state k)
-  intact-at k s = reached-intact (setup-of log) allowed q (state k) k (s .reached)
+  intact-at k s = reached-intact (t .table) (setup-of log) (facts .setup) range q (state k) k (s .reached)
 
   -- the scan of the next request passes
   passes : (k : ℕ) → k < request-count log → At k → scan-verdict (state k) (second k) (server k) ≡ Passed
@@ -149,7 +154,7 @@ module _ (log : List ℕ) (a : Accepted built-in log) where
   unfolding state-after scans build run fresh requests-in requests
   at-start =
       record {
-        reached = rw opened-fresh (reached-fresh (setup-of log) allowed q refl refl);
+        reached = rw opened-fresh (reached-fresh (t .table) (setup-of log) (facts .setup) q refl refl);
         unclosed = rw opened-fresh refl;
       }
 
@@ -158,9 +163,9 @@ module _ (log : List ℕ) (a : Accepted built-in log) where
   unfolding requests-in requests accept
   at-next k h s =
       let e = passes k h s in
-      let n = state-next (opened log) (seconds-of log) (servers-of log) k e in
+      let n = state-next (opened t log) (seconds-of log) (servers-of log) k e in
       record {
-        reached = rw n (reached-scan (setup-of log) q (state k) k (second k) (server k) (s .reached) e refl refl);
+        reached = rw n (reached-scan (t .table) (setup-of log) q (state k) k (second k) (server k) (s .reached) e refl refl);
         unclosed = rw n (s .unclosed);
       }
 

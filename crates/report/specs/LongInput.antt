@@ -1,4 +1,4 @@
--- An input of which no more bytes are read than the limit is answered as the whole would be.
+-- An input, and a price file, of which no more bytes are read than the limit is answered as the whole would be.
 use mathlib.Core.Bool.{not}
 use mathlib.Core.List.{List, [], _∷_, _++_}
 use mathlib.Core.Logic.{_⊎_, inl, inr}
@@ -13,25 +13,27 @@ use Rattle.base.specs.Choice.{either, le-or-lt}
 use Rattle.base.specs.ChoiceLaws.{either-false}
 use Rattle.base.specs.Bytes.{byte, le16, le32}
 use Rattle.base.specs.Refusals.{Condition, refuse, first, each, otherwise}
-use Rattle.base.specs.RefusalLaws.{first-append, first-met, first-passed}
+use Rattle.base.specs.RefusalLaws.{otherwise-assoc, first-append, first-met, first-passed}
 use Rattle.base.specs.declared.Refusal.{Refusal}
 use Rattle.base.specs.declared.Verdict.{Verdict}
 use Rattle.base.specs.declared.Verdict.the-variants.{Passed, Refused}
-use Rattle.prices.specs.Tariff.{built-in}
-use Rattle.prices.specs.Prices.{classes}
+use Rattle.prices.specs.declared.Prices.{Prices}
+use Rattle.prices.specs.PriceFile.{price-room}
+use Rattle.prices.specs.FileLaws as files
+use Rattle.prices.specs.Tariff.{Tariff, price-file}
 use Rattle.log.specs.Sizes.{most-requests, log-room}
 use Rattle.log.specs.Fields.{version, class-of, server-count, home-of, setup-of, request-count, requests-offset, id-offset, total-length, written-sum, length-for}
 use Rattle.log.specs.Sum.{sum-of}
 use Rattle.log.specs.Conditions.{setup-conditions, header-conditions, log-conditions, verdict-of}
 use Rattle.log.specs.ConditionLaws.{log-requests}
-use Rattle.report.specs.Output.{output-by, output, limit}
+use Rattle.report.specs.Output.{output-by, output, limit, price-limit}
 
 -- the conditions 1 to 8
-abbrev early : List ℕ → List Condition
-early s =
+abbrev early : List Prices → List ℕ → List Condition
+early table s =
     refuse 1 0 (ltb (length s) 40)
     ∷ refuse 2 0 (not (eqb (version s) 1))
-    ∷ (setup-conditions classes (setup-of s)
+    ∷ (setup-conditions table (setup-of s)
     ++ (refuse 6 0 (not (eqb (byte s 5) 0))
     ∷ refuse 7 0 (ltb most-requests (request-count s))
     ∷ refuse 8 0
@@ -48,17 +50,17 @@ abbrev late : List ℕ → List Condition
 late s = refuse 10 0 (not (eqb (written-sum s) (sum-of s))) ∷ each (log-requests s) (request-count s)
 
 -- refused by 1 to 8, or else by 9
-abbrev by-form : List ℕ → Verdict
-by-form s = otherwise (first (early s)) (Refused (record { number = 9; place = 0 }))
+abbrev by-form : List Prices → List ℕ → Verdict
+by-form table s = otherwise (first (early table s)) (Refused (record { number = 9; place = 0 }))
 
 -- what refuses a log that is longer than any can be
-long-verdict : (s : List ℕ) → log-room < length s → verdict-of built-in s ≡ by-form s
+long-verdict : (t : Tariff) (s : List ℕ) → log-room < length s → verdict-of t s ≡ otherwise (t .judged) (by-form (t .table) s)
 unfolding verdict-of log-conditions header-conditions setup-conditions length-for
-long-verdict s h = first-append (early s) (ninth s ∷ late s) ∙ go (first (early s)) refl
+long-verdict t s h = ap (otherwise (t .judged)) (first-append (early (t .table) s) (ninth s ∷ late s) ∙ go (first (early (t .table) s)) refl)
   where
-    go : (v : Verdict) → first (early s) ≡ v → otherwise (first (early s)) (first (ninth s ∷ late s)) ≡ by-form s
+    go : (v : Verdict) → first (early (t .table) s) ≡ v → otherwise (first (early (t .table) s)) (first (ninth s ∷ late s)) ≡ by-form (t .table) s
     go Passed e =
-        let f = first-passed (early s) .0 e in
+        let f = first-passed (early (t .table) s) .0 e in
         let few : request-count s ≤ most-requests = ltb-false most-requests (request-count s) (f 6) in
         let a = not (eqb (requests-offset s) 40) in
         let b = not (eqb (id-offset s) 24) in
@@ -69,14 +71,14 @@ long-verdict s h = first-append (early s) (ninth s ∷ late s) ∙ go (first (ea
     go (Refused r) e = rw e refl
 
 -- 1 to 8 look at no byte after 19
-module _ (s t : List ℕ) (same : (k : ℕ) → k < 20 → byte t k ≡ byte s k) where
+module _ (table : List Prices) (s t : List ℕ) (same : (k : ℕ) → k < 20 → byte t k ≡ byte s k) where
   le16-same : (k : ℕ) → k < 19 → le16 t k ≡ le16 s k
   le16-same k l = rw (same k (omega arith), same (k + 1) (omega arith))
 
   le32-same : (k : ℕ) → k < 17 → le32 t k ≡ le32 s k
   le32-same k l = rw (le16-same k (omega arith), le16-same (k + 2) (omega arith))
 
-  early-same : 40 ≤ length s → 40 ≤ length t → early t ≡ early s
+  early-same : 40 ≤ length s → 40 ≤ length t → early table t ≡ early table s
   unfolding version class-of server-count home-of request-count requests-offset id-offset total-length
   early-same h l =
       rw (
@@ -103,21 +105,38 @@ refused-or-nine Passed = refl
 refused-or-nine (Refused r) = refl
 
 -- a longer input is refused, and so are its first bytes, alike
-long-refused : (s : List ℕ) → limit ≤ length s → (r : Refusal) × (verdict-of built-in (take limit s) ≡ Refused r) × (verdict-of built-in s ≡ Refused r)
+long-refused : (t : Tariff) (s : List ℕ) → limit ≤ length s → (r : Refusal) × (verdict-of t (take limit s) ≡ Refused r) × (verdict-of t s ≡ Refused r)
 unfolding limit
-long-refused s h =
+long-refused t s h =
     let long = length-take-le limit s h in
-    let same = early-same s (take limit s) (λ k l. getD-take limit s k 0 (omega arith)) (omega arith) (omega arith) in
-    let r = refused-or-nine (first (early s)) in
-    let e : by-form (take limit s) ≡ by-form s =
-    ap (λ (cs : List Condition). otherwise (first cs) (Refused (record { number = 9; place = 0 }))) same in
-    (or-nine (first (early s)), long-verdict (take limit s) (omega arith) ∙ e ∙ r, long-verdict s (omega arith) ∙ r)
+    let same = early-same (t .table) s (take limit s) (λ k l. getD-take limit s k 0 (omega arith)) (omega arith) (omega arith) in
+    let nine : Verdict = Refused (record { number = 9; place = 0 }) in
+    let r = otherwise-assoc (t .judged) (first (early (t .table) s)) nine ∙ refused-or-nine (otherwise (t .judged) (first (early (t .table) s))) in
+    let e : otherwise (t .judged) (by-form (t .table) (take limit s)) ≡ otherwise (t .judged) (by-form (t .table) s) =
+    ap (λ (cs : List Condition). otherwise (t .judged) (otherwise (first cs) nine)) same in
+    (or-nine (otherwise (t .judged) (first (early (t .table) s))), long-verdict t (take limit s) (omega arith) ∙ e ∙ r, long-verdict t s (omega arith) ∙ r)
 
 -- so the first bytes of an input are enough
-pub enough : (s : List ℕ) → output (take limit s) ≡ output s
+pub enough : (t : Tariff) (s : List ℕ) → output t (take limit s) ≡ output t s
 unfolding output output-by
-enough s = go (le-or-lt (length s) limit)
+enough t s = go (le-or-lt (length s) limit)
   where
-    go : (length s ≤ limit) ⊎ (limit < length s) → output (take limit s) ≡ output s
-    go (inl h) = ap output (take-all limit s h)
-    go (inr h) = let (r, p, q) = long-refused s (omega arith) in rw (p, q)
+    go : (length s ≤ limit) ⊎ (limit < length s) → output t (take limit s) ≡ output t s
+    go (inl h) = ap (output t) (take-all limit s h)
+    go (inr h) = let (r, p, q) = long-refused t s (omega arith) in rw (p, q)
+
+-- a longer price file is refused by 37, whatever the log
+long-prices : (prices log : List ℕ) → price-room < length prices → verdict-of (price-file prices) log ≡ Refused (record { number = 37; place = 0 })
+unfolding verdict-of
+long-prices prices log h = rw (files.long-refused prices h)
+
+-- so the first bytes of a price file are enough
+pub enough-prices : (prices log : List ℕ) → output (price-file (take price-limit prices)) log ≡ output (price-file prices) log
+unfolding output output-by price-limit
+enough-prices prices log = go (le-or-lt (length prices) price-limit)
+  where
+    go : (length prices ≤ price-limit) ⊎ (price-limit < length prices) → output (price-file (take price-limit prices)) log ≡ output (price-file prices) log
+    go (inl h) = ap (λ (f : List ℕ). output (price-file f) log) (take-all price-limit prices h)
+    go (inr h) =
+        let long = length-take-le price-limit prices (omega arith) in
+        rw (long-prices (take price-limit prices) log (omega arith), long-prices prices log (omega arith))

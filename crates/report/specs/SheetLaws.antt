@@ -7,13 +7,13 @@ use lib.ListN.{length}
 use borrow.Author.Tests.{le-ltb}
 use Rattle.base.specs.Lists.{build, build-same}
 use Rattle.base.specs.Refusals.{first, short, otherwise}
-use Rattle.base.specs.RefusalLaws.{first-append}
+use Rattle.base.specs.RefusalLaws.{first-append, otherwise-assoc}
 use Rattle.base.specs.declared.Refusal.{Refusal}
 use Rattle.base.specs.declared.Verdict.{Verdict}
 use Rattle.base.specs.declared.Verdict.the-variants.{Passed, Refused}
-use Rattle.prices.specs.Tariff.{built-in}
-use Rattle.prices.specs.Prices.{classes}
 use Rattle.log.specs.Sizes.{most-requests}
+use Rattle.prices.specs.PriceLaws.{Priced}
+use Rattle.prices.specs.Tariff.{Tariff}
 use Rattle.log.specs.Fields.{request-count, server-count, seconds-of, servers-of}
 use Rattle.log.specs.Conditions.{Accepted, log-conditions, verdict-of}
 use Rattle.log.specs.AcceptedLaws.{accepted-sound}
@@ -35,80 +35,85 @@ use Rattle.report.specs.Replies.{close-cost}
 use Rattle.report.specs.Sheet.{columns-of, sheet-of, sheet-verdict}
 use Rattle.report.specs.Text.{columns, entry-of, sheet-text}
 
--- conditions that fail after an accepted log
-passed-after : (log : List ℕ) (xs : _) → Accepted built-in log → first (log-conditions classes log ++ xs) ≡ first xs
-unfolding Accepted verdict-of
-passed-after log xs a = first-append (log-conditions classes log) xs ∙ ap (λ (v : Verdict). otherwise v (first xs)) a
+-- conditions after a log's
+parts : (t : Tariff) (log : List ℕ) (xs : _) → otherwise (t .judged) (first (log-conditions (t .table) log ++ xs)) ≡ otherwise (verdict-of t log) (first xs)
+unfolding verdict-of
+parts t log xs = ap (otherwise (t .judged)) (first-append (log-conditions (t .table) log) xs) ∙ otherwise-assoc (t .judged) (first (log-conditions (t .table) log)) (first xs)
+
+-- they decide after an accepted log
+passed-after : (t : Tariff) (log : List ℕ) (xs : _) → Accepted t log → otherwise (t .judged) (first (log-conditions (t .table) log ++ xs)) ≡ first xs
+unfolding Accepted
+passed-after t log xs a = parts t log xs ∙ ap (λ (v : Verdict). otherwise v (first xs)) a
 
 -- a refused log is refused
-pub sheet-refused : (log : List ℕ) (room : ℕ) (r : Refusal) → verdict-of built-in log ≡ Refused r → sheet-verdict log room ≡ Refused r
-unfolding sheet-verdict verdict-of
-sheet-refused log room r e =
-    let xs = short (length (sheet-of log)) room ∷ [] in
-    first-append (log-conditions classes log) xs ∙ ap (λ (v : Verdict). otherwise v (first xs)) e
+pub sheet-refused : (t : Tariff) (log : List ℕ) (room : ℕ) (r : Refusal) → verdict-of t log ≡ Refused r → sheet-verdict t log room ≡ Refused r
+unfolding sheet-verdict
+sheet-refused t log room r e =
+    let xs = short (length (sheet-of t log)) room ∷ [] in
+    parts t log xs ∙ ap (λ (v : Verdict). otherwise v (first xs)) e
 
 -- the sheet of an accepted log needs room
-pub sheet-accepted : (log : List ℕ) (room : ℕ) → Accepted built-in log → sheet-verdict log room ≡ room-verdict (sheet-of log) room
+pub sheet-accepted : (t : Tariff) (log : List ℕ) (room : ℕ) → Accepted t log → sheet-verdict t log room ≡ room-verdict (sheet-of t log) room
 unfolding sheet-verdict room-verdict
-sheet-accepted log room a = passed-after log (short (length (sheet-of log)) room ∷ []) a
+sheet-accepted t log room a = passed-after t log (short (length (sheet-of t log)) room ∷ []) a
 
-module _ (log : List ℕ) (a : Accepted built-in log) where
+module _ (t : Tariff) (priced : Priced t) (log : List ℕ) (a : Accepted t log) where
   -- its least costs are found
-  pub least-passes : least-verdict built-in log places ≡ Passed
+  pub least-passes : least-verdict t log places ≡ Passed
   unfolding least-verdict first
-  least-passes = passed-after log _ a ∙ rw (le-ltb places (suc (request-count log)) (omega (arith, accepted-sound built-in log a .requests-most)))
+  least-passes = passed-after t log _ a ∙ rw (le-ltb places (suc (request-count log)) (omega (arith, accepted-sound t log a .requests-most)))
 
   -- its plan has at most two rows for each request
-  pub few-rows : length (planned-rows built-in log) ≤ 2 * request-count log
+  pub few-rows : length (planned-rows t log) ≤ 2 * request-count log
   unfolding planned-rows plan-rows rows
-  few-rows = rows-few (requests-in log) (server-count log) _ (request-count log) _ (log-within built-in log a)
+  few-rows = rows-few (requests-in log) (server-count log) _ (request-count log) _ (log-within t log a)
 
   -- and is found
-  pub plan-passes : plan-verdict built-in log most-requests rows-room ≡ Passed
+  pub plan-passes : plan-verdict t log most-requests rows-room ≡ Passed
   unfolding plan-verdict rows-of-plan first
   plan-passes =
-      passed-after log _ a
+      passed-after t log _ a
       ∙ rw (
-        le-ltb most-requests (request-count log) (accepted-sound built-in log a .requests-most),
-        le-ltb rows-room (length (rows-of-plan built-in log)) (omega (arith, flat-length (planned-rows built-in log), few-rows, accepted-sound built-in log a .requests-most)),
+        le-ltb most-requests (request-count log) (accepted-sound t log a .requests-most),
+        le-ltb rows-room (length (rows-of-plan t log)) (omega (arith, flat-length (planned-rows t log), few-rows, accepted-sound t log a .requests-most)),
       )
 
   -- the online cache goes through its requests, read from lists that hold them
   pub runs-read : (seconds servers : List ℕ) → Alike seconds (seconds-of log) → Alike servers (servers-of log)
-      → Runs (opened log) seconds servers (request-count log)
+      → Runs (opened t log) seconds servers (request-count log)
   unfolding Runs
   runs-read seconds servers h k i l =
-      rw (state-alike (opened log) seconds servers (seconds-of log) (servers-of log) h k i, h i, k i) (goes-on log a i l)
+      rw (state-alike (opened t log) seconds servers (seconds-of log) (servers-of log) h k i, h i, k i) (goes-on t priced log a i l)
 
 -- lists that hold what the calls answer make the sheet
-pub sheet-made : (log : List ℕ) (n rows closing : ℕ) (cache : Cache) (seconds servers plan live least costs : List ℕ)
-    → n ≡ request-count log → rows ≡ length (planned-rows built-in log) → cache ≡ opened log
-    → Alike seconds (seconds-of log) → Alike servers (servers-of log) → Alike plan (marks-of built-in log) → Alike least (least-costs built-in log)
+pub sheet-made : (t : Tariff) (log : List ℕ) (n rows closing : ℕ) (cache : Cache) (seconds servers plan live least costs : List ℕ)
+    → n ≡ request-count log → rows ≡ length (planned-rows t log) → cache ≡ opened t log
+    → Alike seconds (seconds-of log) → Alike servers (servers-of log) → Alike plan (marks-of t log) → Alike least (least-costs t log)
     → Alike live (build n (live-mark cache seconds servers)) → Alike costs (build n (live-cost cache seconds servers))
-    → closing ≡ closing-cost log
-    → sheet-text (entry-of (columns seconds servers plan live least costs)) n rows closing ≡ sheet-of log
+    → closing ≡ closing-cost t log
+    → sheet-text (entry-of (columns seconds servers plan live least costs)) n rows closing ≡ sheet-of t log
 unfolding sheet-of columns-of live-marks running-costs
-sheet-made log n rows closing cache seconds servers plan live least costs e f g h k l m p q z =
+sheet-made t log n rows closing cache seconds servers plan live least costs e f g h k l m p q z =
     rw (e, f, z)
-    (sheet-alike (columns seconds servers plan live least costs) (columns-of log) (request-count log) (length (planned-rows built-in log)) (closing-cost log) h k l (λ i. rw (← marks) (p i)) m
+    (sheet-alike (columns seconds servers plan live least costs) (columns-of t log) (request-count log) (length (planned-rows t log)) (closing-cost t log) h k l (λ i. rw (← marks) (p i)) m
     (λ i. rw (← amounts) (q i)))
   where
-    marks : build n (live-mark cache seconds servers) ≡ live-marks log
+    marks : build n (live-mark cache seconds servers) ≡ live-marks t log
     marks =
         rw (e, g)
-        (build-same (request-count log) _ _ (λ j b. mark-alike (opened log) seconds servers (seconds-of log) (servers-of log) h k j))
+        (build-same (request-count log) _ _ (λ j b. mark-alike (opened t log) seconds servers (seconds-of log) (servers-of log) h k j))
 
-    amounts : build n (live-cost cache seconds servers) ≡ running-costs log
+    amounts : build n (live-cost cache seconds servers) ≡ running-costs t log
     amounts =
         rw (e, g)
-        (build-same (request-count log) _ _ (λ j b. cost-alike (opened log) seconds servers (seconds-of log) (servers-of log) h k j))
+        (build-same (request-count log) _ _ (λ j b. cost-alike (opened t log) seconds servers (seconds-of log) (servers-of log) h k j))
 
 -- the close after a log's requests gives its closing cost
-pub closing-made : (log : List ℕ) (n : ℕ) (cache end : Cache) (seconds servers : List ℕ) → Accepted built-in log
-    → n ≡ request-count log → cache ≡ opened log → Alike seconds (seconds-of log) → Alike servers (servers-of log)
-    → end ≡ state-after cache seconds servers n → close-cost (closed-answer end .outcome) ≡ closing-cost log
+pub closing-made : (t : Tariff) → Priced t → (log : List ℕ) (n : ℕ) (cache end : Cache) (seconds servers : List ℕ) → Accepted t log
+    → n ≡ request-count log → cache ≡ opened t log → Alike seconds (seconds-of log) → Alike servers (servers-of log)
+    → end ≡ state-after cache seconds servers n → close-cost (closed-answer end .outcome) ≡ closing-cost t log
 unfolding closing-cost close-cost closed-answer closed-by
-closing-made log n cache end seconds servers a e g h k s =
-    let state : end ≡ state-after (opened log) (seconds-of log) (servers-of log) (request-count log) =
-    s ∙ rw (e, g) (state-alike (opened log) seconds servers (seconds-of log) (servers-of log) h k (request-count log)) in
-    rw (state, closes log a)
+closing-made t priced log n cache end seconds servers a e g h k s =
+    let state : end ≡ state-after (opened t log) (seconds-of log) (servers-of log) (request-count log) =
+    s ∙ rw (e, g) (state-alike (opened t log) seconds servers (seconds-of log) (servers-of log) h k (request-count log)) in
+    rw (state, closes t priced log a)

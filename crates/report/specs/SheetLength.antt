@@ -4,8 +4,8 @@ use Prim.Native.Nat.{ℕ, zero, suc, _*_, _^_, _≤_, _<_}
 use native.Mathlib.Omega.{arith}
 use lib.ListN.{getD, length}
 use Rattle.base.specs.Lists.{build-at}
-use Rattle.prices.specs.Tariff.{built-in}
-use Rattle.prices.specs.PriceLaws.{classes-ranged}
+use Rattle.prices.specs.PriceLaws.{Priced}
+use Rattle.prices.specs.Tariff.{Tariff}
 use Rattle.log.specs.Fields.{request-count, seconds-of, servers-of}
 use Rattle.log.specs.Conditions.{Accepted}
 use Rattle.log.specs.AcceptedLaws.{accepted-sound}
@@ -26,33 +26,33 @@ use Rattle.report.specs.SheetLaws.{few-rows}
 use Rattle.report.specs.Text.{entry-of, entry-line, entry-lines}
 use Rattle.report.specs.TextLaws.{entry-length, lines-longer, sheet-length}
 
-module _ (log : List ℕ) (a : Accepted built-in log) where
+module _ (t : Tariff) (priced : Priced t) (log : List ℕ) (a : Accepted t log) where
   -- its costs have at most 20 digits
-  least-small : (k : ℕ) → k ≤ request-count log → getD (least-costs built-in log) k 0 < 2 ^ 64
+  least-small : (k : ℕ) → k ≤ request-count log → getD (least-costs t log) k 0 < 2 ^ 64
   unfolding least-costs
   least-small k h =
-      rw (build-at (suc (request-count log)) (λ k. plan-cost (prices-in built-in log) (requests-in log) k) k 0 (omega arith), plan-best (prices-in built-in log) (requests-in log) k)
-      (omega (arith, best-small (prices-in built-in log) (requests-in log) (request-count log) (log-fits built-in log a (λ e. classes-ranged)) k k (omega arith) h))
+      rw (build-at (suc (request-count log)) (λ k. plan-cost (prices-in t log) (requests-in log) k) k 0 (omega arith), plan-best (prices-in t log) (requests-in log) k)
+      (omega (arith, best-small (prices-in t log) (requests-in log) (request-count log) (log-fits t log a priced) k k (omega arith) h))
 
-  running-small : (i : ℕ) → i < request-count log → getD (running-costs log) i 0 < 2 ^ 64
+  running-small : (i : ℕ) → i < request-count log → getD (running-costs t log) i 0 < 2 ^ 64
   unfolding running-costs live-cost
   running-small i h =
-      let s = intact-after log a (suc i) h in
-      rw (build-at (request-count log) (live-cost (opened log) (seconds-of log) (servers-of log)) i 0 h)
-      (running-fits _ (omega (arith, s .held-most)) (omega (arith, s .transfers-most, s .requests-most)))
+      let s = intact-after t priced log a (suc i) h in
+      rw (build-at (request-count log) (live-cost (opened t log) (seconds-of log) (servers-of log)) i 0 h)
+      (running-fits _ (s .priced) (omega (arith, s .held-most)) (omega (arith, s .transfers-most, s .requests-most)))
 
-  closing-small : closing-cost log < 2 ^ 64
+  closing-small : closing-cost t log < 2 ^ 64
   unfolding closing-cost
-  closing-small = closing-fits _ (intact-after log a (request-count log) (omega arith))
+  closing-small = closing-fits _ (intact-after t priced log a (request-count log) (omega arith))
 
   abbrev entry : ℕ → Entry
-  entry = entry-of (columns-of log)
+  entry = entry-of (columns-of t log)
 
   -- a line
   line-short : (i : ℕ) → i < request-count log → length (entry-line (entry i)) ≤ entry-room
   unfolding entry-of columns-of
   line-short i h =
-      let f = accepted-sound built-in log a in
+      let f = accepted-sound t log a in
       let o = f .in-order i h in
       entry-length (entry i) (omega (arith, f .requests-most)) (omega (arith, o .second-most)) (omega (arith, o .server-below, f .setup .servers-most))
       (least-small (suc i) h) (running-small i h)
@@ -64,9 +64,9 @@ module _ (log : List ℕ) (a : Accepted built-in log) where
   lines-short (suc k) h = lines-longer entry k (lines-short k (omega arith)) (line-short k h)
 
   -- all of it
-  pub sheet-fits : length (sheet-of log) ≤ sheet-room
+  pub sheet-fits : length (sheet-of t log) ≤ sheet-room
   unfolding sheet-of
   sheet-fits =
-      let few = accepted-sound built-in log a .requests-most in
-      sheet-length entry (request-count log) (length (planned-rows built-in log)) (closing-cost log) few (omega (arith, few-rows log a, few)) closing-small
+      let few = accepted-sound t log a .requests-most in
+      sheet-length entry (request-count log) (length (planned-rows t log)) (closing-cost t log) few (omega (arith, few-rows t priced log a, few)) closing-small
       (lines-short (request-count log) (omega arith))

@@ -5,7 +5,9 @@ mod sheets;
 
 use log::LOG_ROOM;
 use log::MOST_REQUESTS;
+use prices::PRICE_ROOM;
 pub use sheets::sheet;
+pub use sheets::sheet_with;
 
 // What a request's line says: its number from 1, second, server, the letters of the plan's and of the online cache's mark, and the least
 // and the running cost of the requests so far.
@@ -21,6 +23,9 @@ pub struct Entry {
 
 // How many bytes of an input are read at most: one more than the longest log has.
 pub const LIMIT: usize = LOG_ROOM + 1;
+
+// And of a price file: one more than the longest has.
+pub const PRICE_LIMIT: usize = PRICE_ROOM + 1;
 
 // Room for any sheet: its first line, one of at most 109 bytes for each request, and its last two lines.
 pub const SHEET_ROOM: usize = 41 + 109 * MOST_REQUESTS + 26 + 27;

@@ -6,6 +6,7 @@ ghost use lib.ListN.{length, drop};
 ghost use Rattle.base.specs.Lent.{lent};
 ghost use Rattle.base.specs.Lists.{build};
 ghost use Rattle.base.specs.declared.Verdict.the-variants.{Passed};
+ghost use Rattle.prices.specs.Tariff.{price-file};
 ghost use Rattle.online.specs.Answers.{started, closed-answer};
 ghost use Rattle.report.specs.Live.{state-after, live-mark, live-cost};
 ghost use Rattle.log.specs.Contents.{setup-in};
@@ -62,16 +63,16 @@ fn step(cache: Cache, second: u32, server: u16) -> Turn
     }
 }
 
-// The state of a log's start.
-pub fn open(header: Header) -> Cache
-    ensures { λ r. ⌜ r ≡ started (setup-in header) .cache ⌝ }
+// The state of a log's start by a price file.
+pub fn open(prices: &[u8], header: Header) -> Cache
+    ensures { λ r. ⌜ r ≡ started (price-file (now (prices .entry))) (setup-in header) .cache ⌝ }
 {
     let setup = Setup {
         class: header.class,
         server_count: header.server_count,
         home: header.home,
     };
-    let s = Cache::start(setup);
+    let s = Cache::start_with(prices, setup);
     s.cache
 }
 

@@ -4,7 +4,7 @@ ghost use Prim.Native.Nat.{_≤_};
 ghost use lib.ListN.{length, take};
 ghost use Rattle.base.specs.Lent.{lent};
 ghost use Rattle.base.specs.declared.Verdict.the-variants.{Passed};
-ghost use Rattle.prices.specs.Tariff.{built-in};
+ghost use Rattle.prices.specs.Tariff.{built-in, price-file};
 ghost use Rattle.log.specs.Sizes.{most-requests};
 ghost use Rattle.log.specs.Fields.{header-of, request-count, seconds-of, servers-of};
 ghost use Rattle.log.specs.Conditions.{Accepted, verdict-of};
@@ -27,12 +27,13 @@ use log::Decoded;
 use log::Header;
 use log::MOST_REQUESTS;
 use log::ReadOutcome;
-use log::read;
+use log::read_with;
 use planner::PLACES;
 use planner::Planned;
 use planner::ROWS_ROOM;
-use planner::least;
-use planner::plan;
+use planner::least_with;
+use planner::plan_with;
+use prices::built_in;
 use text::Printed;
 use text::give::give;
 
@@ -54,36 +55,37 @@ fn row_count(planned: Planned) -> u64
 }
 
 // Read a log, into lists that have room for any.
-fn read_requests(log: &[u8], seconds: &mut [u32], servers: &mut [u16]) -> Decoded
+fn read_requests(prices: &[u8], log: &[u8], seconds: &mut [u32], servers: &mut [u16]) -> Decoded
     requires { ⌜ (length (now seconds) ≡ most-requests) × (length (now servers) ≡ most-requests) ⌝ }
-    ensures { λ r. ⌜ r ≡ decoded (verdict-of built-in (now (log .entry))) (now (log .entry)) ⌝ }
-    ensures { λ _. ⌜ now (seconds .exit) ≡ lent (verdict-of built-in (now (log .entry))) (seconds-of (now (log .entry))) (now (seconds .entry)) ⌝ }
-    ensures { λ _. ⌜ now (servers .exit) ≡ lent (verdict-of built-in (now (log .entry))) (servers-of (now (log .entry))) (now (servers .entry)) ⌝ }
+    ensures { λ r. ⌜ r ≡ decoded (verdict-of (price-file (now (prices .entry))) (now (log .entry))) (now (log .entry)) ⌝ }
+    ensures { λ _. ⌜ now (seconds .exit) ≡ lent (verdict-of (price-file (now (prices .entry))) (now (log .entry))) (seconds-of (now (log .entry))) (now (seconds .entry)) ⌝ }
+    ensures { λ _. ⌜ now (servers .exit) ≡ lent (verdict-of (price-file (now (prices .entry))) (now (log .entry))) (servers-of (now (log .entry))) (now (servers .entry)) ⌝ }
 {
-    read(log, seconds, servers)
+    read_with(prices, log, seconds, servers)
 }
 
 // The marks of an accepted log's plan, and the number of the plan's rows.
-fn plan_marks(log: &[u8], marks: &mut [u8]) -> u64
-    requires { ⌜ Accepted built-in (now log) × (length (now marks) ≡ most-requests) ⌝ }
-    ensures { λ r. ⌜ r ≡ length (planned-rows built-in (now (log .entry))) ⌝ }
-    ensures { λ _. ⌜ now (marks .exit) ≡ lent Passed (marks-of built-in (now (log .entry))) (now (marks .entry)) ⌝ }
+fn plan_marks(prices: &[u8], log: &[u8], marks: &mut [u8]) -> u64
+    requires { ⌜ Accepted (price-file (now prices)) (now log) × (length (now marks) ≡ most-requests) ⌝ }
+    ensures { λ r. ⌜ r ≡ length (planned-rows (price-file (now (prices .entry))) (now (log .entry))) ⌝ }
+    ensures { λ _. ⌜ now (marks .exit) ≡ lent Passed (marks-of (price-file (now (prices .entry))) (now (log .entry))) (now (marks .entry)) ⌝ }
 {
     let mut rows = [0u32; ROWS_ROOM];
-    let planned = plan(log, marks, &mut rows);
+    let planned = plan_with(prices, log, marks, &mut rows);
     row_count(planned)
 }
 
 // The least costs of its first requests.
-fn find_least(log: &[u8], costs: &mut [u64])
-    requires { ⌜ Accepted built-in (now log) × (length (now costs) ≡ places) ⌝ }
-    ensures { λ _. ⌜ now (costs .exit) ≡ lent Passed (least-costs built-in (now (log .entry))) (now (costs .entry)) ⌝ }
+fn find_least(prices: &[u8], log: &[u8], costs: &mut [u64])
+    requires { ⌜ Accepted (price-file (now prices)) (now log) × (length (now costs) ≡ places) ⌝ }
+    ensures { λ _. ⌜ now (costs .exit) ≡ lent Passed (least-costs (price-file (now (prices .entry))) (now (log .entry))) (now (costs .entry)) ⌝ }
 {
-    least(log, costs);
+    least_with(prices, log, costs);
 }
 
 // The sheet of an accepted log, of what was read of it, at the front of a text that has room for any.
 fn put_sheet(
+    prices: &[u8],
     log: &[u8],
     header: Header,
     n: usize,
@@ -91,18 +93,18 @@ fn put_sheet(
     servers: &[u16],
     text: &mut [u8],
 ) -> usize
-    requires { ⌜ Accepted built-in (now log) × (header ≡ header-of (now log)) × (n ≡ request-count (now log)) ⌝ }
+    requires { ⌜ Accepted (price-file (now prices)) (now log) × (header ≡ header-of (now log)) × (n ≡ request-count (now log)) ⌝ }
     requires { ⌜ Alike (now seconds) (seconds-of (now log)) × Alike (now servers) (servers-of (now log)) ⌝ }
     requires { ⌜ (length (now seconds) ≡ most-requests) × (length (now servers) ≡ most-requests) × (sheet-room ≤ length (now text)) ⌝ }
-    ensures { λ r. ⌜ (r ≤ length (now (text .exit))) × (take r (now (text .exit)) ≡ sheet-of (now (log .entry))) ⌝ }
+    ensures { λ r. ⌜ (r ≤ length (now (text .exit))) × (take r (now (text .exit)) ≡ sheet-of (price-file (now (prices .entry))) (now (log .entry))) ⌝ }
 {
     let mut marks = [0u8; MOST_REQUESTS];
     let mut costs = [0u64; PLACES];
     let mut live_marks = [0u8; MOST_REQUESTS];
     let mut live_costs = [0u64; MOST_REQUESTS];
-    let rows = plan_marks(log, &mut marks);
-    find_least(log, &mut costs);
-    let cache = open(header);
+    let rows = plan_marks(prices, log, &mut marks);
+    find_least(prices, log, &mut costs);
+    let cache = open(prices, header);
     let end = give_live(cache, seconds, servers, n, &mut live_marks, &mut live_costs);
     let close = closing(end);
     put_lines(
@@ -119,22 +121,39 @@ fn put_sheet(
     )
 }
 
-// The sheet of a log and zeros after it; refused with 1 to 13 or 31, the text as it was.
-pub fn sheet(log: &[u8], text: &mut [u8]) -> Printed
-    ensures { λ r. ⌜ r ≡ printed (sheet-verdict (now (log .entry)) (length (now (text .entry)))) (sheet-of (now (log .entry))) ⌝ }
-    ensures { λ _. ⌜ now (text .exit) ≡ text-left (now (log .entry)) (now (text .entry)) ⌝ }
+// The sheet of a log by a price file, and zeros after it; refused with 37, 38, 1 to 13 or 31, the text as it was.
+pub fn sheet_with(prices: &[u8], log: &[u8], text: &mut [u8]) -> Printed
+    ensures { λ r. ⌜ r ≡ printed (sheet-verdict (price-file (now (prices .entry))) (now (log .entry)) (length (now (text .entry)))) (sheet-of (price-file (now (prices .entry))) (now (log .entry))) ⌝ }
+    ensures { λ _. ⌜ now (text .exit) ≡ text-left (price-file (now (prices .entry))) (now (log .entry)) (now (text .entry)) ⌝ }
 {
     let mut seconds = [0u32; MOST_REQUESTS];
     let mut servers = [0u16; MOST_REQUESTS];
-    let decoded = read_requests(log, &mut seconds, &mut servers);
+    let decoded = read_requests(prices, log, &mut seconds, &mut servers);
     let outcome = decoded.outcome;
     let header = decoded.header;
     match outcome {
         ReadOutcome::Refused(r) => Printed::Refused(r),
         ReadOutcome::Requests(n) => {
             let mut page = room();
-            let end = put_sheet(log, header, size_from_u16(n), &seconds, &servers, &mut page);
+            let end = put_sheet(
+                prices,
+                log,
+                header,
+                size_from_u16(n),
+                &seconds,
+                &servers,
+                &mut page,
+            );
             give(&page[..end], text)
         }
     }
+}
+
+// The same by the built-in table: refused with 1 to 13 or 31.
+pub fn sheet(log: &[u8], text: &mut [u8]) -> Printed
+    ensures { λ r. ⌜ r ≡ printed (sheet-verdict built-in (now (log .entry)) (length (now (text .entry)))) (sheet-of built-in (now (log .entry))) ⌝ }
+    ensures { λ _. ⌜ now (text .exit) ≡ text-left built-in (now (log .entry)) (now (text .entry)) ⌝ }
+{
+    let prices = built_in();
+    sheet_with(&prices, log, text)
 }

@@ -5,12 +5,13 @@ use crate::calls::{Calls, Simple};
 use crate::checker::{flat, Row};
 use crate::log::{Header, Log, Request, LAST_SECOND};
 use crate::planner;
-use crate::random::{damaged_log, random_header, random_log, random_requests, Random};
+use crate::prices::{PriceFile, Table, HIGHEST};
+use crate::random::{damaged_log, random_header, random_log, random_requests, random_table, Random};
 use crate::Refusal;
 
-fn check<C: Calls>(file: &[u8], rows: &[u32]) -> Result<u64, Refusal> {
-    let a = Simple::check(file, rows);
-    assert_eq!(C::check(file, rows), a, "{file:?} {rows:?}");
+pub(super) fn check<C: Calls>(prices: PriceFile, file: &[u8], rows: &[u32]) -> Result<u64, Refusal> {
+    let a = Simple::check(prices, file, rows);
+    assert_eq!(C::check(prices, file, rows), a, "{prices:?} {file:?} {rows:?}");
     a
 }
 
@@ -35,12 +36,12 @@ pub fn every_pair_of_rows<C: Calls>() {
     for log in [week(2, 0, &[]), week(2, 1, &[(2, 0)]), week(2, 0, &[(1, 1), (3, 1)])] {
         let file = log.bytes();
         for length in 0..7 {
-            met.count(&check::<C>(&file, &[0, 0, 0, 1, 1, 0, 1][..length]));
+            met.count(&check::<C>(None, &file, &[0, 0, 0, 1, 1, 0, 1][..length]));
         }
         for first in &rows {
-            met.count(&check::<C>(&file, first));
+            met.count(&check::<C>(None, &file, first));
             for second in &rows {
-                met.count(&check::<C>(&file, &[*first, *second].concat()));
+                met.count(&check::<C>(None, &file, &[*first, *second].concat()));
             }
         }
     }
@@ -65,7 +66,7 @@ fn formed(server_count: u32, last: u32) -> Vec<Row> {
 }
 
 fn every_list<C: Calls>(file: &[u8], rows: &[Row], list: &mut Vec<Row>, most: usize, met: &mut Met) {
-    met.count(&check::<C>(file, &flat(list)));
+    met.count(&check::<C>(None, file, &flat(list)));
     if list.len() < most {
         for row in rows {
             list.push(*row);
@@ -217,19 +218,21 @@ pub fn random_rows<C: Calls>(seed: u64, times: usize) {
     let mut random = Random::new(seed);
     let mut met = Met::default();
     for i in 0..times {
-        let mut header = random_header(&mut random);
+        let table = random_table(&mut random);
+        let mut header = random_header(&mut random, &table);
         header.server_count = header.server_count.min(9);
         header.home %= header.server_count;
         let count = random.one_of(&[0, 1, 1, 2, 3, 6]);
-        let mut requests = random_requests(&mut random, &header, count);
+        let prices = table.of(header.class);
+        let mut requests = random_requests(&mut random, prices, &header, count);
         requests.retain(|request| request.second <= 60);
         let log = Log { header, requests };
         let mut rows: Vec<[u32; 4]> = match i % 4 {
-            0 => planner::plan(&log).rows.iter().map(|row| row.numbers()).collect(),
+            0 => planner::plan(prices, &log).rows.iter().map(|row| row.numbers()).collect(),
             _ => feasible(&mut random, &log).iter().map(|row| row.numbers()).collect(),
         };
         if random.once_in(4) {
-            let cost = check::<C>(&log.bytes(), &rows.concat());
+            let cost = check::<C>(table.file(), &log.bytes(), &rows.concat());
             assert!(cost.is_ok(), "{log:?} {rows:?}");
         }
         for _ in 0..random.one_of(&[0, 1, 1, 1, 2, 3]) {
@@ -239,7 +242,7 @@ pub fn random_rows<C: Calls>(seed: u64, times: usize) {
         if random.once_in(30) {
             numbers.truncate(random.below(numbers.len() as u64 + 1) as usize);
         }
-        met.count(&check::<C>(&log.bytes(), &numbers));
+        met.count(&check::<C>(table.file(), &log.bytes(), &numbers));
     }
     met.exactly(&[0, 14, 15, 16, 17, 18], times as u64 / 200);
 }
@@ -249,9 +252,10 @@ pub fn damaged_logs<C: Calls>(seed: u64, times: usize) {
     let mut random = Random::new(seed);
     let mut met = Met::default();
     for _ in 0..times {
-        let file = damaged_log(&mut random);
+        let table = random_table(&mut random);
+        let file = damaged_log(&mut random, &table);
         let rows: Vec<u32> = (0..random.below(9)).map(|_| random.number()).collect();
-        met.count(&check::<C>(&file, &rows));
+        met.count(&check::<C>(table.file(), &file, &rows));
     }
     met.at_least(&[1, 2, 3, 4, 5, 6, 7, 8, 9, 10, 11, 12, 13, 14, 15], times as u64 / 1_000);
 }
@@ -265,20 +269,20 @@ pub fn longest_chain<C: Calls>() {
         let mut rows = vec![[0, held, 0, 5]];
         rows.extend((1..64).map(|source| [1, source, source - 1, second]));
         sort(&mut rows);
-        assert!(check::<C>(&file, &rows.concat()).is_ok());
+        assert!(check::<C>(None, &file, &rows.concat()).is_ok());
         for at in 1..rows.len() {
             let mut fewer = rows.clone();
             fewer.remove(at);
-            let refused = check::<C>(&file, &fewer.concat());
+            let refused = check::<C>(None, &file, &fewer.concat());
             assert!(refused.is_err());
             met.count(&refused);
         }
         let mut more = rows.clone();
         more.push([1, 0, 63, second]);
         sort(&mut more);
-        assert!(check::<C>(&file, &more.concat()).is_ok());
+        assert!(check::<C>(None, &file, &more.concat()).is_ok());
         more.retain(|row| row[0] == 1);
-        met.count(&check::<C>(&file, &more.concat()));
+        met.count(&check::<C>(None, &file, &more.concat()));
     }
     met.exactly(&[17, 18], 1);
 }
@@ -288,52 +292,59 @@ pub fn many_rows<C: Calls>(seed: u64) {
     let mut random = Random::new(seed);
     let mut met = Met::default();
     for most in [300, 1_000, 2_048] {
-        let log = random_log(&mut random, most);
-        let mut rows: Vec<[u32; 4]> = planner::plan(&log).rows.iter().map(|row| row.numbers()).collect();
-        assert!(check::<C>(&log.bytes(), &rows.concat()).is_ok());
+        let table = random_table(&mut random);
+        let log = random_log(&mut random, &table, most);
+        let mut rows: Vec<[u32; 4]> = planner::plan(table.of(log.header.class), &log).rows.iter().map(|row| row.numbers()).collect();
+        assert!(check::<C>(table.file(), &log.bytes(), &rows.concat()).is_ok());
         spoil(&mut random, &log, &mut rows);
-        met.count(&check::<C>(&log.bytes(), &rows.concat()));
+        met.count(&check::<C>(table.file(), &log.bytes(), &rows.concat()));
     }
+    let table = Table::of_pairs(&[(HIGHEST, HIGHEST)]);
     for server_count in [2, 5, 64] {
         let header = Header { class: 0, server_count, home: 1, id: [0; 16] };
         let log = Log { header, requests: vec![Request { second: 2_000, server: 0 }] };
         let right: Vec<[u32; 4]> = feasible(&mut random, &log).iter().map(|row| row.numbers()).collect();
         assert!(right.len() > 500);
-        assert!(check::<C>(&log.bytes(), &right.concat()).is_ok());
+        assert!(check::<C>(table.file(), &log.bytes(), &right.concat()).is_ok());
         for _ in 0..60 {
             let mut rows = right.clone();
             spoil(&mut random, &log, &mut rows);
-            met.count(&check::<C>(&log.bytes(), &rows.concat()));
+            met.count(&check::<C>(table.file(), &log.bytes(), &rows.concat()));
         }
     }
     met.at_least(&[0, 15, 16, 17], 10);
 }
 
-/// The bounds of 01: 64 servers and the last second, reached and passed by one; and numbers far beyond.
+/// The bounds of 01: 64 servers and the last second, reached and passed by one; and numbers far beyond. The prices are ordinary, and the highest.
 pub fn bounds<C: Calls>() {
+    bounds_at::<C>(&Table::built_in(), 5);
+    bounds_at::<C>(&Table::of_pairs(&[(HIGHEST, HIGHEST)]), 0);
+}
+
+fn bounds_at<C: Calls>(table: &Table, class: u8) {
     let mut met = Met::default();
     for (server_count, last) in [(64, LAST_SECOND), (64, LAST_SECOND - 1), (63, LAST_SECOND), (1, LAST_SECOND)] {
-        let header = Header { class: 5, server_count, home: server_count - 1, id: [0; 16] };
+        let header = Header { class, server_count, home: server_count - 1, id: [0; 16] };
         let home = header.home as u32;
         let log = Log { header, requests: vec![Request { second: 1, server: home as u16 }, Request { second: last, server: 0 }] };
         let file = log.bytes();
         let whole: Vec<[u32; 4]> = (0..server_count as u32).map(|server| [0, server, 0, last]).collect();
         let first: Vec<[u32; 4]> = (0..home).map(|target| [1, home, target, 0]).collect();
         let everywhere = [whole.clone(), first.clone()].concat();
-        let cost = check::<C>(&file, &everywhere.concat());
-        assert_eq!(cost, Ok(5 * last as u64 * server_count as u64 + 600 * home as u64));
+        let cost = check::<C>(table.file(), &file, &everywhere.concat());
+        assert_eq!(cost, Ok(table.of(class).cost(last as u64 * server_count as u64, home as u64)));
         for field in 0..4 {
             for number in [0, 1, 2, 62, 63, 64, 65, LAST_SECOND - 1, LAST_SECOND, LAST_SECOND + 1, 1 << 31, u32::MAX] {
                 for at in [0, whole.len() - 1, everywhere.len() - 1] {
                     let mut rows = everywhere.clone();
                     rows[at][field] = number;
-                    met.count(&check::<C>(&file, &rows.concat()));
+                    met.count(&check::<C>(table.file(), &file, &rows.concat()));
                 }
                 let mut rows = everywhere.clone();
                 let mut end = [1, home, 0, last];
                 end[field] = number;
                 rows.push(end);
-                met.count(&check::<C>(&file, &rows.concat()));
+                met.count(&check::<C>(table.file(), &file, &rows.concat()));
             }
         }
     }

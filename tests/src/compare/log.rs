@@ -3,7 +3,8 @@
 use super::{noise16, noise32, noise8, room, Met};
 use crate::calls::{Calls, Simple};
 use crate::log::{self, Header, Log, Request, LAST_SECOND, MOST_REQUESTS};
-use crate::random::{damaged_log, random_header, random_log, random_requests, Random};
+use crate::prices::{PriceFile, Prices};
+use crate::random::{damaged_log, random_header, random_log, random_requests, random_table, Random};
 use crate::{refuse, Refusal};
 
 /// Every small length and some long ones, with random bytes and with the greatest.
@@ -33,33 +34,34 @@ pub fn factors<C: Calls>() {
 }
 
 /// One file read with outputs of the given lengths.
-fn read<C: Calls>(random: &mut Random, file: &[u8], seconds: usize, servers: usize) -> Result<u16, Refusal> {
+pub(super) fn read<C: Calls>(random: &mut Random, prices: PriceFile, file: &[u8], seconds: usize, servers: usize) -> Result<u16, Refusal> {
     let (seconds, servers) = (noise32(random, seconds), noise16(random, servers));
     let (mut seconds_a, mut servers_a) = (seconds.clone(), servers.clone());
     let (mut seconds_b, mut servers_b) = (seconds, servers);
-    let a = Simple::read(file, &mut seconds_a, &mut servers_a);
-    let b = C::read(file, &mut seconds_b, &mut servers_b);
-    assert_eq!(b, a, "{file:?}");
-    assert_eq!(seconds_b, seconds_a, "{file:?}");
-    assert_eq!(servers_b, servers_a, "{file:?}");
+    let a = Simple::read(prices, file, &mut seconds_a, &mut servers_a);
+    let b = C::read(prices, file, &mut seconds_b, &mut servers_b);
+    assert_eq!(b, a, "{prices:?} {file:?}");
+    assert_eq!(seconds_b, seconds_a, "{prices:?} {file:?}");
+    assert_eq!(servers_b, servers_a, "{prices:?} {file:?}");
     a.1
 }
 
-fn read_with_any_room<C: Calls>(random: &mut Random, file: &[u8]) -> Result<u16, Refusal> {
+pub(super) fn read_with_any_room<C: Calls>(random: &mut Random, prices: PriceFile, file: &[u8]) -> Result<u16, Refusal> {
     let count = file.len().saturating_sub(40) / 6;
     let (seconds, servers) = (room(random, count), room(random, count));
-    read::<C>(random, file, seconds, servers)
+    read::<C>(random, prices, file, seconds, servers)
 }
 
 pub fn reads<C: Calls>(seed: u64, times: usize) {
     let mut random = Random::new(seed);
     let mut met = Met::default();
     for i in 0..times {
+        let table = random_table(&mut random);
         let file = match i % 3 {
-            0 => random_log(&mut random, 30).bytes(),
-            _ => damaged_log(&mut random),
+            0 => random_log(&mut random, &table, 30).bytes(),
+            _ => damaged_log(&mut random, &table),
         };
-        met.count(&read_with_any_room::<C>(&mut random, &file));
+        met.count(&read_with_any_room::<C>(&mut random, table.file(), &file));
     }
     met.exactly(&[0, 1, 2, 3, 4, 5, 6, 7, 8, 9, 10, 11, 12, 13, 31], times as u64 / 1_000);
 }
@@ -79,10 +81,10 @@ pub fn every_byte<C: Calls>() {
         for byte in 0..=255 {
             let mut file = good.clone();
             file[at] = byte;
-            met.count(&read::<C>(&mut random, &file, 2, 3));
+            met.count(&read::<C>(&mut random, None, &file, 2, 3));
             let sum = log::sum(&file);
             file[20..24].copy_from_slice(&sum.to_le_bytes());
-            met.count(&read::<C>(&mut random, &file, 3, 2));
+            met.count(&read::<C>(&mut random, None, &file, 3, 2));
         }
     }
     met.exactly(&[0, 2, 3, 4, 5, 6, 7, 8, 10, 11, 12, 13], 2);
@@ -94,16 +96,16 @@ pub fn wrong_sums<C: Calls>() {
     let mut met = Met::default();
     for count in 0..8 {
         let header = Header { class: 1, server_count: 64, home: 3, id: *b"0123456789abcdef" };
-        let requests = random_requests(&mut random, &header, count);
+        let requests = random_requests(&mut random, Prices::of(1), &header, count);
         let good = Log { header, requests }.bytes();
         let flips = (20..good.len()).flat_map(|at| [1, 0x40, 0xff].map(|flip| (at, flip)));
         for (at, flip) in [(2, 1), (3, 0x7f), (4, 1)].into_iter().chain(flips) {
             let mut file = good.clone();
             file[at] ^= flip;
-            met.count(&read::<C>(&mut random, &file, count, count));
-            assert_eq!(C::plan(&file, &mut [0; 8], &mut [0; 128]), refuse(10, 0));
-            assert_eq!(C::least(&file, &mut [0; 9]), refuse(10, 0));
-            assert_eq!(C::check(&file, &[]), refuse(10, 0));
+            met.count(&read::<C>(&mut random, None, &file, count, count));
+            assert_eq!(C::plan(None, &file, &mut [0; 8], &mut [0; 128]), refuse(10, 0));
+            assert_eq!(C::least(None, &file, &mut [0; 9]), refuse(10, 0));
+            assert_eq!(C::check(None, &file, &[]), refuse(10, 0));
         }
     }
     met.exactly(&[10], 1_000);
@@ -117,29 +119,36 @@ pub fn every_length<C: Calls>() {
     for length in 0..100 {
         let mut file = good.clone();
         file.resize(length, 0);
-        met.count(&read::<C>(&mut random, &file, 20, 20));
+        met.count(&read::<C>(&mut random, None, &file, 20, 20));
         if length >= 24 {
             let sum = log::sum(&file);
             file[20..24].copy_from_slice(&sum.to_le_bytes());
-            met.count(&read::<C>(&mut random, &file, 20, 20));
+            met.count(&read::<C>(&mut random, None, &file, 20, 20));
             file[16..20].copy_from_slice(&(length as u32).to_le_bytes());
             file[6..8].copy_from_slice(&((length as u16).saturating_sub(40) / 6).to_le_bytes());
             let sum = log::sum(&file);
             file[20..24].copy_from_slice(&sum.to_le_bytes());
-            met.count(&read::<C>(&mut random, &file, 20, 20));
+            met.count(&read::<C>(&mut random, None, &file, 20, 20));
         }
     }
     met.exactly(&[0, 1, 8, 9, 12], 5);
 }
 
 /// One write into an output of the given length.
-fn write<C: Calls>(random: &mut Random, header: &Header, seconds: &[u32], servers: &[u16], length: usize) -> Result<u64, Refusal> {
+pub(super) fn write<C: Calls>(
+    random: &mut Random,
+    prices: PriceFile,
+    header: &Header,
+    seconds: &[u32],
+    servers: &[u16],
+    length: usize,
+) -> Result<u64, Refusal> {
     let out = noise8(random, length);
     let (mut out_a, mut out_b) = (out.clone(), out);
-    let a = Simple::write(header, seconds, servers, &mut out_a);
-    let b = C::write(header, seconds, servers, &mut out_b);
-    assert_eq!(b, a, "{header:?} {seconds:?} {servers:?}");
-    assert_eq!(out_b, out_a, "{header:?} {seconds:?} {servers:?}");
+    let a = Simple::write(prices, header, seconds, servers, &mut out_a);
+    let b = C::write(prices, header, seconds, servers, &mut out_b);
+    assert_eq!(b, a, "{prices:?} {header:?} {seconds:?} {servers:?}");
+    assert_eq!(out_b, out_a, "{prices:?} {header:?} {seconds:?} {servers:?}");
     a
 }
 
@@ -168,7 +177,8 @@ pub fn writes<C: Calls>(seed: u64, times: usize) {
     let mut random = Random::new(seed);
     let mut met = Met::default();
     for i in 0..times {
-        let log = random_log(&mut random, 30);
+        let table = random_table(&mut random);
+        let log = random_log(&mut random, &table, 30);
         let (mut header, mut seconds, mut servers) = (log.header, log.seconds(), log.servers());
         if i % 3 != 0 {
             for _ in 0..random.one_of(&[1, 1, 2]) {
@@ -176,7 +186,7 @@ pub fn writes<C: Calls>(seed: u64, times: usize) {
             }
         }
         let length = room(&mut random, 40 + 6 * seconds.len());
-        met.count(&write::<C>(&mut random, &header, &seconds, &servers, length));
+        met.count(&write::<C>(&mut random, table.file(), &header, &seconds, &servers, length));
     }
     met.exactly(&[0, 3, 4, 5, 7, 11, 12, 13, 31], times as u64 / 1_000);
 }
@@ -185,16 +195,17 @@ pub fn writes<C: Calls>(seed: u64, times: usize) {
 pub fn round_trips<C: Calls>(seed: u64, times: usize) {
     let mut random = Random::new(seed);
     for _ in 0..times {
-        let log = random_log(&mut random, 50);
+        let table = random_table(&mut random);
+        let log = random_log(&mut random, &table, 50);
         let count = log.requests.len();
         let mut file = noise8(&mut random, 40 + 6 * count);
-        assert_eq!(C::write(&log.header, &log.seconds(), &log.servers(), &mut file), Ok(file.len() as u64));
+        assert_eq!(C::write(table.file(), &log.header, &log.seconds(), &log.servers(), &mut file), Ok(file.len() as u64));
         let (mut seconds, mut servers) = (noise32(&mut random, count), noise16(&mut random, count));
-        let (header, read) = C::read(&file, &mut seconds, &mut servers);
+        let (header, read) = C::read(table.file(), &file, &mut seconds, &mut servers);
         assert_eq!((header, read), (log.header, Ok(count as u16)));
         assert_eq!((&seconds, &servers), (&log.seconds(), &log.servers()));
         let mut again = noise8(&mut random, file.len());
-        assert_eq!(C::write(&header, &seconds, &servers, &mut again), Ok(file.len() as u64));
+        assert_eq!(C::write(table.file(), &header, &seconds, &servers, &mut again), Ok(file.len() as u64));
         assert_eq!(again, file);
     }
 }
@@ -204,14 +215,15 @@ pub fn longest<C: Calls>() {
     let mut random = Random::new(103);
     let mut met = Met::default();
     for count in [MOST_REQUESTS - 1, MOST_REQUESTS, MOST_REQUESTS + 1] {
-        let header = random_header(&mut random);
-        let requests = random_requests(&mut random, &header, count);
+        let table = random_table(&mut random);
+        let header = random_header(&mut random, &table);
+        let requests = random_requests(&mut random, table.of(header.class), &header, count);
         let log = Log { header, requests };
         let file = log.bytes();
         for length in [count - 1, count, count + 5] {
-            met.count(&read::<C>(&mut random, &file, length, count));
-            met.count(&read::<C>(&mut random, &file, count, length));
-            met.count(&write::<C>(&mut random, &log.header, &log.seconds(), &log.servers(), 40 + 6 * length));
+            met.count(&read::<C>(&mut random, table.file(), &file, length, count));
+            met.count(&read::<C>(&mut random, table.file(), &file, count, length));
+            met.count(&write::<C>(&mut random, table.file(), &log.header, &log.seconds(), &log.servers(), 40 + 6 * length));
         }
     }
     met.exactly(&[0, 7, 31], 6);
@@ -228,8 +240,8 @@ pub fn bounds<C: Calls>() {
                     let header = Header { class: 7, server_count, home, id: [0xaa; 16] };
                     let requests = vec![Request { second: 1, server: 0 }, Request { second, server }];
                     let log = Log { header, requests };
-                    met.count(&read::<C>(&mut random, &log.bytes(), 2, 2));
-                    met.count(&write::<C>(&mut random, &header, &log.seconds(), &log.servers(), 52));
+                    met.count(&read::<C>(&mut random, None, &log.bytes(), 2, 2));
+                    met.count(&write::<C>(&mut random, None, &header, &log.seconds(), &log.servers(), 52));
                 }
             }
         }

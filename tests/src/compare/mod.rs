@@ -7,6 +7,7 @@ pub mod checker;
 pub mod log;
 pub mod online;
 pub mod planner;
+pub mod prices;
 pub mod weeks;
 
 use crate::random::Random;
@@ -121,5 +122,15 @@ mod tests {
         online::full::<Fast>(24);
         online::dearest::<Fast>();
         online::each_age::<Fast>();
+        online::price_bounds::<Fast>();
+    }
+
+    #[test]
+    fn fast_prices() {
+        prices::boundaries::<Fast>();
+        prices::every_byte::<Fast>();
+        prices::random_files::<Fast>(25, 20_000);
+        prices::every_class::<Fast>(26);
+        prices::built_in_as_a_file::<Fast>(27, 2_000);
     }
 }

@@ -5,8 +5,8 @@ use crate::calls::{Calls, Simple};
 use crate::log::{Header, Log, Request, LAST_SECOND, MOST_REQUESTS};
 use crate::online::{history, Cache, Served, MOST_HELD};
 use crate::planner::Mark;
-use crate::prices::Prices;
-use crate::random::{random_gap, random_header, Random};
+use crate::prices::{each_class, PriceFile, Prices, Table, EDGES, HIGHEST};
+use crate::random::{random_gap, random_header, random_pair, random_table, Random};
 use crate::{refuse, Refusal};
 
 #[derive(Clone, Copy, Debug)]
@@ -40,19 +40,29 @@ fn call<C: Calls>(cache: &Cache, call: Call, met: &mut Met) -> (Cache, Result<Gi
     }
 }
 
-/// Starts of every class, count and home about their bounds.
+/// A start by both.
+pub(super) fn start<C: Calls>(prices: PriceFile, class: u8, server_count: u8, home: u8) -> Result<(), Refusal> {
+    let a = Simple::start(prices, class, server_count, home);
+    assert_eq!(C::start(prices, class, server_count, home), a, "{prices:?} {class} {server_count} {home}");
+    a.1
+}
+
+/// Starts of every class, count and home about their bounds, with tables of several lengths.
 pub fn starts<C: Calls>() {
-    let mut met = Met::default();
-    for class in (0..12).chain([128, 255]) {
-        for server_count in 0..=255u8 {
-            for home in (0..4).chain([62, 63, 64, 65, 254, 255]).chain([server_count.saturating_sub(1), server_count]) {
-                let a = Simple::start(class, server_count, home);
-                assert_eq!(C::start(class, server_count, home), a, "{class} {server_count} {home}");
-                met.count(&a.1);
+    let of_length = |classes| Table::of_pairs(&vec![(3, 70); classes]);
+    for table in [Table::built_in(), Table::of_pairs(&EDGES), of_length(1), of_length(255), of_length(256)] {
+        let mut met = Met::default();
+        for class in (0..12).chain([128, 254, 255]) {
+            for server_count in 0..=255u8 {
+                for home in (0..4).chain([62, 63, 64, 65, 254, 255]).chain([server_count.saturating_sub(1), server_count]) {
+                    met.count(&start::<C>(table.file(), class, server_count, home));
+                }
             }
         }
+        // every class is below 256
+        let all: &[u8] = if table.classes() == 256 { &[0, 4, 5] } else { &[0, 3, 4, 5] };
+        met.exactly(all, 100);
     }
-    met.exactly(&[0, 3, 4, 5], 100);
 }
 
 /// What 01 says of a call in a list from the start and the calls before it alone: its refusal, if any.
@@ -76,7 +86,8 @@ fn expected(header: &Header, taken: &[Request], closed: bool, call: Call) -> Opt
 }
 
 /// A list of calls in progress: the state last given back, and what the list alone says.
-struct Run {
+struct Run<'a> {
+    table: &'a Table,
     header: Header,
     cache: Cache,
     taken: Vec<Request>,
@@ -85,11 +96,12 @@ struct Run {
     closing: Option<u64>,
 }
 
-impl Run {
-    fn start<C: Calls>(header: Header) -> Run {
-        let (cache, ready) = C::start(header.class, header.server_count, header.home);
+impl Run<'_> {
+    fn start<C: Calls>(table: &Table, header: Header) -> Run<'_> {
+        let (cache, ready) = C::start(table.file(), header.class, header.server_count, header.home);
         assert_eq!(ready, Ok(()));
-        Run { header, cache, taken: vec![], marks: vec![], closing: None }
+        assert_eq!(cache.prices, table.of(header.class));
+        Run { table, header, cache, taken: vec![], marks: vec![], closing: None }
     }
 
     fn step<C: Calls>(&mut self, next: Call, met: &mut Met) {
@@ -111,23 +123,25 @@ impl Run {
     /// Demand 3 at the end of a list: counts as the rules give them, and the running cost between least and three times it. The closing
     /// cost, of the close in the list or of one after it, is between the running cost and three times the least and one transfer.
     fn end<C: Calls>(&self) {
-        let Header { class, home, .. } = self.header;
+        let prices = self.table.of(self.header.class);
+        assert_eq!(self.cache.prices, prices);
         let closing = self.closing.unwrap_or_else(|| C::close(&self.cache).1.unwrap());
         assert_eq!(self.cache.requests as usize, self.taken.len());
         if self.taken.last().map_or(0, |request| request.second) <= 3_000 {
-            let history = history(class, home, &self.taken);
+            let history = history(prices, self.header.home, &self.taken);
             assert_eq!((self.cache.transfers, self.cache.held, self.cache.holders), (history.transfers, history.held, history.standing));
             assert_eq!(self.marks, history.marks);
-            assert_eq!(closing, history.closing_cost(class));
+            assert_eq!(closing, history.closing_cost(prices));
         }
         let log = Log { header: self.header, requests: self.taken.clone() };
         let mut file = vec![0; 40 + 6 * self.taken.len()];
-        C::write(&self.header, &log.seconds(), &log.servers(), &mut file).unwrap();
+        C::write(self.table.file(), &self.header, &log.seconds(), &log.servers(), &mut file).unwrap();
         let mut costs = vec![0; self.taken.len() + 1];
-        C::least(&file, &mut costs).unwrap();
+        C::least(self.table.file(), &file, &mut costs).unwrap();
         let (least, running) = (costs[self.taken.len()], C::running(&self.cache).unwrap());
-        assert!(least <= running && running <= 3 * least, "{log:?} {least} {running}");
-        assert!(running <= closing && closing <= 3 * least + Prices::of(class).transfer, "{log:?} {least} {running} {closing}");
+        assert!(least <= running && running <= 3 * least, "{prices:?} {log:?} {least} {running}");
+        let most = 3 * least + prices.transfer as u64;
+        assert!(running <= closing && closing <= most, "{prices:?} {log:?} {least} {running} {closing}");
     }
 }
 
@@ -135,12 +149,12 @@ impl Run {
 /// one more, and closes.
 pub fn every_small_list<C: Calls>(most: usize) {
     let mut met = Met::default();
-    for class in 0..8 {
-        let window = Prices::of(class).window() as u32;
+    for (table, class) in each_class() {
+        let window = table.of(class).window() as u32;
         let mut gaps = vec![0, 1, window.max(1), window + 1];
         gaps.dedup();
         for server_count in 1..=3 {
-            let (cache, _) = C::start(class, server_count, server_count / 2);
+            let (cache, _) = C::start(table.file(), class, server_count, server_count / 2);
             every_list::<C>(&cache, &gaps, most, &mut met);
         }
     }
@@ -164,7 +178,7 @@ fn every_list<C: Calls>(cache: &Cache, gaps: &[u32], left: usize, met: &mut Met)
 fn random_call(random: &mut Random, run: &Run, ends: u64) -> Call {
     let count = run.header.server_count as u64;
     let server = if random.once_in(4) { run.cache.last } else { random.below(count) as u16 };
-    let later = run.cache.second + random_gap(random, run.header.class, LAST_SECOND);
+    let later = run.cache.second + random_gap(random, run.cache.prices, LAST_SECOND);
     match random.below(30) {
         0 => Call::Scan(later, random.one_of(&[count as u16, count as u16 + 1, 64, 256, 0xffff])),
         1 => Call::Scan(random.one_of(&[0, LAST_SECOND + 1, u32::MAX]), server),
@@ -178,8 +192,13 @@ fn random_call(random: &mut Random, run: &Run, ends: u64) -> Call {
 pub fn random_lists<C: Calls>(seed: u64, times: usize) {
     let mut random = Random::new(seed);
     let mut met = Met::default();
+    let (mut without_window, mut at_bounds) = (0, 0);
     for _ in 0..times {
-        let mut run = Run::start::<C>(random_header(&mut random));
+        let table = random_table(&mut random);
+        let mut run = Run::start::<C>(&table, random_header(&mut random, &table));
+        let Prices { hold, transfer } = run.cache.prices;
+        without_window += usize::from(hold > transfer);
+        at_bounds += usize::from([1, HIGHEST].contains(&hold) && [1, HIGHEST].contains(&transfer));
         let length = random.one_of(&[0, 5, 20, 60, 120]);
         let ends = random.one_of(&[1, 1, 5, 1_000]);
         for _ in 0..random.between(0, length) {
@@ -189,12 +208,15 @@ pub fn random_lists<C: Calls>(seed: u64, times: usize) {
         run.end::<C>();
     }
     met.exactly(&[0, 11, 12, 33, 35], times as u64 / 10);
+    assert!(without_window > times / 10 && at_bounds > times / 100, "{without_window} {at_bounds}");
 }
 
 /// A state that passes 32, whether or not calls lead to it.
 fn sound(random: &mut Random) -> Cache {
-    let header = random_header(random);
-    let window = Prices::of(header.class).window();
+    let table = random_table(random);
+    let header = random_header(random, &table);
+    let prices = table.of(header.class);
+    let window = prices.window();
     let second = random.one_of(&[0, 1, 5, 40, 1_000, 3_999_999, LAST_SECOND]);
     let last = random.below(header.server_count as u64) as u16;
     let mut holders = random.word() & random.word() & (u64::MAX >> (64 - header.server_count as u32));
@@ -211,7 +233,7 @@ fn sound(random: &mut Random) -> Cache {
     last_use[last as usize] = second;
     let requests = random.one_of(&[0, 1, 2, 100, 2_047, 2_048]);
     Cache {
-        class: header.class,
+        prices,
         server_count: header.server_count,
         last,
         second,
@@ -224,11 +246,19 @@ fn sound(random: &mut Random) -> Cache {
     }
 }
 
+/// A price about a bound, or any number.
+fn random_price(random: &mut Random) -> u32 {
+    let any = random.word() as u32;
+    random.one_of(&[0, 0, 1, HIGHEST, HIGHEST + 1, HIGHEST + 1, u32::MAX, any])
+}
+
 /// One field changed: to a value about its bound, or to any.
 fn spoil(random: &mut Random, cache: &mut Cache) {
     let server = random.below(64) as usize;
-    match random.below(14) {
-        0 => cache.class = random.one_of(&[7, 8, 255, 0, 6]),
+    match random.below(16) {
+        0 => cache.prices.hold = random_price(random),
+        13 => cache.prices.transfer = random_price(random),
+        14 => (cache.prices.hold, cache.prices.transfer) = random_pair(random),
         1 => cache.server_count = random.one_of(&[0, 1, 64, 65, 200, 255]),
         2 => cache.last = random.one_of(&[0, 1, 63, 64, 65, 256, 0xffff, cache.server_count as u16]),
         3 => cache.second = cache.second.wrapping_add(random.one_of(&[1, 2, u32::MAX])),
@@ -241,9 +271,9 @@ fn spoil(random: &mut Random, cache: &mut Cache) {
         10 => cache.requests = random.one_of(&[2_048, 2_049, u32::MAX, 0]),
         11 => cache.transfers = random.one_of(&[cache.requests, cache.requests.wrapping_add(1), u32::MAX]),
         12 => cache.held = random.one_of(&[MOST_HELD, MOST_HELD + 1, u32::MAX]),
-        _ if cache.class < 8 => {
+        _ if cache.prices.in_range() => {
             // a copy at its last second, or one second past it
-            let age = Prices::of(cache.class).window() as u32 + random.below(2) as u32;
+            let age = cache.prices.window() as u32 + random.below(2) as u32;
             if cache.holders >> server & 1 == 1 && age <= cache.second {
                 cache.last_use[server] = cache.second - age;
             }
@@ -274,14 +304,37 @@ pub fn made_up_states<C: Calls>(seed: u64, times: usize) {
     met.exactly(&[0, 11, 12, 32, 33, 34, 35], times as u64 / 100);
 }
 
-/// Lists of 2,048 requests taken and more calls after them; one with as many held seconds as can be.
+/// 32 for each pair of prices about the bounds, of a state whose copies were all used in its last second, so that no window matters.
+pub fn price_bounds<C: Calls>() {
+    let mut met = Met::default();
+    let prices = [0, 1, 2, HIGHEST - 1, HIGHEST, HIGHEST + 1, 1 << 31, u32::MAX];
+    for (hold, transfer) in prices.into_iter().flat_map(|hold| prices.map(|transfer| (hold, transfer))) {
+        let fresh = Cache::fresh(Prices { hold, transfer }, 3, 2);
+        let mut later = Cache { second: 50, holders: 5, requests: 9, transfers: 4, held: 70, ..fresh };
+        (later.last_use[0], later.last_use[2]) = (50, 50);
+        for cache in [fresh, later] {
+            let sound = (1..=HIGHEST).contains(&hold) && (1..=HIGHEST).contains(&transfer);
+            for next in [Call::Scan(51, 0), Call::Scan(51, 1), Call::Close] {
+                let (_, outcome) = call::<C>(&cache, next, &mut met);
+                assert_eq!(outcome.err(), refuse::<()>(32, 0).err().filter(|_| !sound), "{cache:?}");
+            }
+            assert_eq!(C::running(&cache).is_ok(), sound, "{cache:?}");
+        }
+    }
+    met.exactly(&[0, 32], 90);
+}
+
+/// Lists of 2,048 requests taken and more calls after them; two with as many held seconds as can be.
 pub fn full<C: Calls>(seed: u64) {
     let mut random = Random::new(seed);
     let mut met = Met::default();
-    for (class, server_count) in [(0, 64), (7, 64), (6, 3), (4, 8), (5, 1)] {
-        let mut run = Run::start::<C>(Header { class, server_count, home: 0, id: [0; 16] });
+    let (built_in, own) = (Table::built_in(), Table::of_pairs(&[(HIGHEST, HIGHEST), (HIGHEST, 1), (7, HIGHEST)]));
+    let ordinary = [(0, 64), (7, 64), (6, 3), (4, 8), (5, 1)].map(|(class, server_count)| (&built_in, class, server_count));
+    let dear = [(0, 64), (1, 64), (2, 64)].map(|(class, server_count)| (&own, class, server_count));
+    for (table, class, server_count) in ordinary.into_iter().chain(dear) {
+        let mut run = Run::start::<C>(table, Header { class, server_count, home: 0, id: [0; 16] });
         while run.taken.len() < MOST_REQUESTS {
-            let gap = random_gap(&mut random, class, 1_900);
+            let gap = random_gap(&mut random, run.cache.prices, 1_900);
             let server = random.below(server_count as u64) as u16;
             run.step::<C>(Call::Scan(run.cache.second + gap, server), &mut met);
         }
@@ -290,30 +343,33 @@ pub fn full<C: Calls>(seed: u64) {
         }
         run.end::<C>();
     }
-    let mut run = Run::start::<C>(Header { class: 7, server_count: 64, home: 0, id: [0; 16] });
-    for server in 1..64 {
-        run.step::<C>(Call::Scan(server as u32, server), &mut met);
+    for (table, class) in [(&built_in, 7), (&own, 2)] {
+        let mut run = Run::start::<C>(table, Header { class, server_count: 64, home: 0, id: [0; 16] });
+        for server in 1..64 {
+            run.step::<C>(Call::Scan(server as u32, server), &mut met);
+        }
+        while run.taken.len() < MOST_REQUESTS - 1 {
+            let next = run.cache.second + 2_000;
+            let oldest = (0..64).min_by_key(|&server| run.cache.last_use[server]).unwrap() as u16;
+            run.step::<C>(Call::Scan(next, oldest), &mut met);
+        }
+        run.step::<C>(Call::Scan(LAST_SECOND, 0), &mut met);
+        assert!(run.cache.held > 200_000_000);
+        run.end::<C>();
     }
-    while run.taken.len() < MOST_REQUESTS - 1 {
-        let next = run.cache.second + 2_000;
-        let oldest = (0..64).min_by_key(|&server| run.cache.last_use[server]).unwrap() as u16;
-        run.step::<C>(Call::Scan(next, oldest), &mut met);
-    }
-    run.step::<C>(Call::Scan(LAST_SECOND, 0), &mut met);
-    assert!(run.cache.held > 200_000_000);
-    run.end::<C>();
     met.exactly(&[0, 11, 12, 33, 34], 1);
 }
 
 /// Closes of the states with the largest closing costs: 64 copies with a whole window left, all seconds held and transfers that 32 lets pass. No
-/// copy costs more than a transfer, so none is dearer than what 256,000,000 seconds and 2,112 transfers cost; five classes reach that.
+/// copy costs more than a transfer, so none is dearer than what 256,000,000 seconds and 2,112 transfers cost; where no rest is left, that is reached.
 pub fn dearest<C: Calls>() {
     let mut met = Met::default();
     let mut costs = vec![];
-    for class in 0..8 {
+    for (table, class) in each_class() {
+        let prices = table.of(class);
         let second = LAST_SECOND;
         let most = Cache {
-            class,
+            prices,
             server_count: 64,
             last: 63,
             second,
@@ -324,35 +380,36 @@ pub fn dearest<C: Calls>() {
             held: MOST_HELD,
             closed: false,
         };
-        let prices = Prices::of(class);
         let (_, closed) = call::<C>(&most, Call::Close, &mut met);
-        let Ok(Given::Closed(cost)) = closed else { panic!("class {class}") };
-        assert!(cost <= 256_000_000 * prices.hold + 2_112 * prices.transfer);
-        assert_eq!(cost == 256_000_000 * prices.hold + 2_112 * prices.transfer, prices.transfer % prices.hold == 0);
+        let Ok(Given::Closed(cost)) = closed else { panic!("{prices:?}") };
+        let bound = prices.cost(256_000_000, 2_112);
+        assert!(cost <= bound);
+        assert_eq!(cost == bound, prices.transfer % prices.hold == 0);
         costs.push(cost);
         let _ = call::<C>(&Cache { held: MOST_HELD + 1, ..most }, Call::Close, &mut met);
     }
     assert_eq!(
-        costs,
+        costs[..8],
         [256_021_120, 256_052_800, 512_052_736, 768_063_360, 768_211_136, 1_281_267_200, 1_792_010_240, 2_368_000_000]
     );
-    met.exactly(&[0, 32], 8);
+    assert_eq!(costs.iter().max(), Some(&256_002_112_000_000));
+    met.exactly(&[0, 32], 16);
 }
 
-/// A copy at each age up to a window, in class 7 about its bounds: what is left of it, beside the last server's whole window.
+/// A copy at each age up to a window, of a long window about its bounds: what is left of it, beside the last server's whole window.
 pub fn each_age<C: Calls>() {
-    for class in 0..8 {
-        let prices = Prices::of(class);
+    for (table, class) in each_class() {
+        let prices = table.of(class);
         let window = prices.window();
-        let ages: Vec<u64> = if class == 7 { vec![0, 1, window - 1, window] } else { (0..=window).collect() };
+        let ages: Vec<u64> = if window > 1_000 { vec![0, 1, window - 1, window] } else { (0..=window).collect() };
         for age in ages {
-            let (fresh, _) = C::start(class, 2, 0);
+            let (fresh, _) = C::start(table.file(), class, 2, 0);
             let mut cache = Cache { last: 1, second: LAST_SECOND, holders: 3, ..fresh };
             cache.last_use[0] = LAST_SECOND - age as u32;
             cache.last_use[1] = LAST_SECOND;
-            assert_eq!(C::close(&cache).1, Ok(prices.hold * (window - age + window)), "{class} {age}");
+            assert_eq!(C::close(&cache).1, Ok(prices.cost(window - age + window, 0)), "{prices:?} {age}");
             cache.last_use[0] = LAST_SECOND - window as u32 - 1;
-            assert_eq!(C::close(&cache), (cache, refuse(32, 0)), "{class}");
+            assert_eq!(C::close(&cache), (cache, refuse(32, 0)), "{prices:?}");
         }
     }
 }

@@ -107,11 +107,11 @@ impl Week {
         let file = self.log().bytes();
         let count = self.requests.len();
         let (mut marks, mut rows, mut costs) = (vec![1; count], vec![1; 8 * count], vec![1; count + 1]);
-        let (cost, number) = C::plan(&file, &mut marks, &mut rows).unwrap();
+        let (cost, number) = C::plan(None, &file, &mut marks, &mut rows).unwrap();
         rows.truncate(4 * number as usize);
-        assert_eq!(C::least(&file, &mut costs), Ok(count as u32 + 1));
+        assert_eq!(C::least(None, &file, &mut costs), Ok(count as u32 + 1));
         assert!(costs.ends_with(self.least) && cost == costs[count], "{costs:?}");
-        assert_eq!(C::check(&file, &rows), Ok(cost));
+        assert_eq!(C::check(None, &file, &rows), Ok(cost));
         if let Some(expected) = self.marks {
             assert_eq!(marks, expected.as_bytes());
         }
@@ -121,7 +121,7 @@ impl Week {
     }
 
     fn online<C: Calls>(&self) {
-        let (mut cache, _) = C::start(self.class, self.server_count, 0);
+        let (mut cache, _) = C::start(None, self.class, self.server_count, 0);
         let (mut running, mut marks) = (vec![0], String::new());
         for &(second, server) in self.requests {
             let (next, served) = C::scan(&cache, second, server);
@@ -150,20 +150,20 @@ pub fn a_to_f<C: Calls>() {
 /// Week G: a cycle of transfers with nothing behind it, and then with something.
 pub fn g<C: Calls>() {
     let file = log_of(0, 2, &[(1, 0)]).bytes();
-    assert_eq!(C::check(&file, &[1, 0, 1, 1, 1, 1, 0, 1]), refuse(17, 1));
-    assert_eq!(C::check(&file, &[0, 0, 0, 1, 1, 0, 1, 1, 1, 1, 0, 1]), Ok(21));
+    assert_eq!(C::check(None, &file, &[1, 0, 1, 1, 1, 1, 0, 1]), refuse(17, 1));
+    assert_eq!(C::check(None, &file, &[0, 0, 0, 1, 1, 0, 1, 1, 1, 1, 0, 1]), Ok(21));
 }
 
 fn read<C: Calls>(requests: &[(u32, u16)]) -> Result<u16, Refusal> {
     let file = log_of(0, 2, requests).bytes();
-    C::read(&file, &mut [0; 2], &mut [0; 2]).1
+    C::read(None, &file, &mut [0; 2], &mut [0; 2]).1
 }
 
 /// Weeks H and I: the last second, and equal seconds.
 pub fn h_and_i<C: Calls>() {
     assert_eq!(read::<C>(&[(4_000_000, 1)]), Ok(1));
     assert_eq!(read::<C>(&[(4_000_001, 1)]), refuse(12, 1));
-    let (cache, _) = C::start(0, 2, 0);
+    let (cache, _) = C::start(None, 0, 2, 0);
     assert!(C::scan(&cache, 4_000_000, 1).1.is_ok());
     assert_eq!(C::scan(&cache, 4_000_001, 1), (cache, refuse(12, 0)));
     assert_eq!(read::<C>(&[(7, 1), (7, 0)]), refuse(13, 2));
@@ -175,6 +175,7 @@ mod tests {
     use crate::calls::Simple;
     use crate::fast::Fast;
     use crate::planner::{all_markings, least, plan_by_all_markings};
+    use crate::prices::Prices;
     use crate::search::least_by_sets;
 
     #[test]
@@ -195,15 +196,16 @@ mod tests {
     fn least_costs_by_all_ways() {
         for week in WEEKS {
             let log = week.log();
-            for (k, &cost) in least(&log).iter().enumerate() {
-                assert_eq!(plan_by_all_markings(&log.cut(k)).cost, cost);
-                assert_eq!(least_by_sets(&log.cut(k)), cost);
+            let prices = Prices::of(week.class);
+            for (k, &cost) in least(prices, &log).iter().enumerate() {
+                assert_eq!(plan_by_all_markings(prices, &log.cut(k)).cost, cost);
+                assert_eq!(least_by_sets(prices, &log.cut(k)), cost);
             }
         }
     }
 
     #[test]
     fn three_markings_of_week_c_cost_42() {
-        assert_eq!(all_markings(&C.log()).iter().filter(|plan| plan.cost == 42).count(), 3);
+        assert_eq!(all_markings(Prices::of(C.class), &C.log()).iter().filter(|plan| plan.cost == 42).count(), 3);
     }
 }

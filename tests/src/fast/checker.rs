@@ -1,7 +1,8 @@
 //! The checker in time close to the number of rows, with memory for one word a second that matters.
 
 use super::log::accepted;
-use crate::prices::Prices;
+use super::prices::table;
+use crate::prices::{PriceFile, Prices};
 use crate::{refuse, Refusal};
 
 /// 15 and 16 for all rows; gives back the number of holds and the cost.
@@ -33,9 +34,9 @@ fn check_form(prices: Prices, count: u32, last: Option<u32>, rows: &[u32]) -> Re
         }
         if kind == 0 {
             holds += 1;
-            cost += prices.hold * (c - b) as u64;
+            cost += prices.cost((c - b) as u64, 0);
         } else {
-            cost += prices.transfer;
+            cost += prices.cost(0, 1);
         }
         before = [kind, a, b, c];
     }
@@ -116,14 +117,15 @@ fn standing(home: u8, seconds: &[u32], holds: &[u32], transfers: &[u32]) -> Vec<
     words
 }
 
-pub fn check(file: &[u8], rows: &[u32]) -> Result<u64, Refusal> {
+pub fn check(prices: PriceFile, file: &[u8], rows: &[u32]) -> Result<u64, Refusal> {
+    let table = table(prices)?;
     let mut requests = Vec::new();
-    let (header, _) = accepted(file, |_, request| requests.push((request.second, request.server)))?;
+    let (header, _) = accepted(table, file, |_, request| requests.push((request.second, request.server)))?;
     if rows.len() % 4 != 0 {
         return refuse(14, 0);
     }
     let last = requests.last().map(|request| request.0);
-    let (count, cost) = check_form(Prices::of(header.class), header.server_count as u32, last, rows)?;
+    let (count, cost) = check_form(table.of(header.class), header.server_count as u32, last, rows)?;
     let (holds, transfers) = rows.split_at(4 * count);
     let seconds = merged(transfers, &requests);
     let words = standing(header.home, &seconds, holds, transfers);

@@ -1,6 +1,8 @@
 //! Reader, writer and sum in one pass over the bytes, without memory of their own.
 
+use super::prices::{table, Table};
 use crate::log::{check_setup, header_of, Header, Request, LAST_SECOND, MOST_REQUESTS};
+use crate::prices::PriceFile;
 use crate::{refuse, Refusal};
 
 /// The sum over some bytes, four at a time.
@@ -27,8 +29,8 @@ pub fn sum(file: &[u8]) -> u32 {
 }
 
 /// The header and all requests, 11 to 13 checked on the way.
-pub(super) fn accepted(file: &[u8], mut each: impl FnMut(usize, Request)) -> Result<(Header, usize), Refusal> {
-    let (header, count) = header_of(file, sum)?;
+pub(super) fn accepted(table: Table, file: &[u8], mut each: impl FnMut(usize, Request)) -> Result<(Header, usize), Refusal> {
+    let (header, count) = header_of(table.classes(), file, sum)?;
     let mut earlier = 0;
     for (i, six) in file[40..].chunks_exact(6).enumerate() {
         let second = u32::from_le_bytes([six[0], six[1], six[2], six[3]]);
@@ -53,8 +55,8 @@ fn check_request(server_count: u8, second: u32, server: u16, earlier: u32, i: us
     Ok(())
 }
 
-pub fn read(file: &[u8], seconds: &mut [u32], servers: &mut [u16]) -> (Header, Result<u16, Refusal>) {
-    let (header, count) = match accepted(file, |_, _| ()) {
+pub fn read(prices: PriceFile, file: &[u8], seconds: &mut [u32], servers: &mut [u16]) -> (Header, Result<u16, Refusal>) {
+    let (header, count) = match table(prices).and_then(|table| accepted(table, file, |_, _| ())) {
         Ok(accepted) => accepted,
         Err(refusal) => return (Header::default(), Err(refusal)),
     };
@@ -70,8 +72,8 @@ pub fn read(file: &[u8], seconds: &mut [u32], servers: &mut [u16]) -> (Header, R
     (header, Ok(count as u16))
 }
 
-pub fn write(header: &Header, seconds: &[u32], servers: &[u16], out: &mut [u8]) -> Result<u64, Refusal> {
-    check_setup(header.class, header.server_count, header.home)?;
+pub fn write(prices: PriceFile, header: &Header, seconds: &[u32], servers: &[u16], out: &mut [u8]) -> Result<u64, Refusal> {
+    check_setup(table(prices)?.classes(), header.class, header.server_count, header.home)?;
     if seconds.len() != servers.len() || seconds.len() > MOST_REQUESTS {
         return refuse(7, 0);
     }

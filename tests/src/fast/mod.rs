@@ -5,13 +5,15 @@ pub mod checker;
 pub mod log;
 pub mod online;
 pub mod planner;
+mod prices;
 
-use crate::calls::{Calls, Simple};
+use crate::calls::Calls;
 use crate::log::Header;
-use crate::online::{Cache, Served};
+use crate::online::{or_zeros, Cache, Served};
+use crate::prices::PriceFile;
 use crate::Refusal;
 
-/// The fast implementation. A start is a start.
+/// The fast implementation.
 pub struct Fast;
 
 impl Calls for Fast {
@@ -19,28 +21,28 @@ impl Calls for Fast {
         log::sum(file)
     }
 
-    fn read(file: &[u8], seconds: &mut [u32], servers: &mut [u16]) -> (Header, Result<u16, Refusal>) {
-        log::read(file, seconds, servers)
+    fn read(prices: PriceFile, file: &[u8], seconds: &mut [u32], servers: &mut [u16]) -> (Header, Result<u16, Refusal>) {
+        log::read(prices, file, seconds, servers)
     }
 
-    fn write(header: &Header, seconds: &[u32], servers: &[u16], out: &mut [u8]) -> Result<u64, Refusal> {
-        log::write(header, seconds, servers, out)
+    fn write(prices: PriceFile, header: &Header, seconds: &[u32], servers: &[u16], out: &mut [u8]) -> Result<u64, Refusal> {
+        log::write(prices, header, seconds, servers, out)
     }
 
-    fn check(file: &[u8], rows: &[u32]) -> Result<u64, Refusal> {
-        checker::check(file, rows)
+    fn check(prices: PriceFile, file: &[u8], rows: &[u32]) -> Result<u64, Refusal> {
+        checker::check(prices, file, rows)
     }
 
-    fn plan(file: &[u8], marks: &mut [u8], rows: &mut [u32]) -> Result<(u64, u32), Refusal> {
-        planner::plan(file, marks, rows)
+    fn plan(prices: PriceFile, file: &[u8], marks: &mut [u8], rows: &mut [u32]) -> Result<(u64, u32), Refusal> {
+        planner::plan(prices, file, marks, rows)
     }
 
-    fn least(file: &[u8], costs: &mut [u64]) -> Result<u32, Refusal> {
-        planner::least(file, costs)
+    fn least(prices: PriceFile, file: &[u8], costs: &mut [u64]) -> Result<u32, Refusal> {
+        planner::least(prices, file, costs)
     }
 
-    fn start(class: u8, server_count: u8, home: u8) -> (Cache, Result<(), Refusal>) {
-        Simple::start(class, server_count, home)
+    fn start(prices: PriceFile, class: u8, server_count: u8, home: u8) -> (Cache, Result<(), Refusal>) {
+        or_zeros(online::start(prices, class, server_count, home))
     }
 
     fn scan(cache: &Cache, second: u32, server: u16) -> (Cache, Result<Served, Refusal>) {

@@ -1,12 +1,19 @@
-//! Scan, running cost and close on a state in place, going through the copies that stand.
+//! Start; scan, running cost and close on a state in place, going through the copies that stand.
 
-use crate::log::{LAST_SECOND, MOST_REQUESTS};
+use super::prices::table;
+use crate::log::{check_setup, LAST_SECOND, MOST_REQUESTS};
 use crate::online::{Cache, Served, MOST_HELD};
-use crate::prices::Prices;
+use crate::prices::PriceFile;
 use crate::{refuse, Refusal};
 
+pub fn start(prices: PriceFile, class: u8, server_count: u8, home: u8) -> Result<Cache, Refusal> {
+    let table = table(prices)?;
+    check_setup(table.classes(), class, server_count, home)?;
+    Ok(Cache::fresh(table.of(class), server_count, home))
+}
+
 fn unsound(cache: &Cache) -> bool {
-    if cache.class > 7 || cache.server_count < 1 || cache.server_count > 64 || cache.second > LAST_SECOND {
+    if !cache.prices.in_range() || cache.server_count < 1 || cache.server_count > 64 || cache.second > LAST_SECOND {
         return true;
     }
     let last = cache.last as usize;
@@ -19,7 +26,7 @@ fn unsound(cache: &Cache) -> bool {
     if cache.requests > MOST_REQUESTS as u32 || cache.transfers > cache.requests || cache.held > MOST_HELD {
         return true;
     }
-    let window = Prices::of(cache.class).window() as u32;
+    let window = cache.prices.window() as u32;
     let mut wrong = false;
     for (server, &used) in cache.last_use.iter().enumerate() {
         let stands = cache.holders >> server & 1 == 1;
@@ -30,7 +37,7 @@ fn unsound(cache: &Cache) -> bool {
 
 pub fn scan(cache: &mut Cache, second: u32, server: u16) -> Result<Served, Refusal> {
     cache.scan_fault(second, server, unsound)?;
-    let window = Prices::of(cache.class).window() as u32;
+    let window = cache.prices.window() as u32;
     let (at, last) = (server as usize, cache.last as usize);
     let mut held = second - cache.second;
     let mut others = cache.holders & !(1 << last);
@@ -76,13 +83,13 @@ pub fn close(cache: &mut Cache) -> Result<u64, Refusal> {
         return refuse(33, 0);
     }
     cache.closed = true;
-    let prices = Prices::of(cache.class);
+    let window = cache.prices.window();
     let mut left = 0;
     let mut copies = cache.holders;
     while copies != 0 {
         let at = copies.trailing_zeros() as usize;
         copies &= copies - 1;
-        left += cache.last_use[at] as u64 + prices.window() - cache.second as u64;
+        left += cache.last_use[at] as u64 + window - cache.second as u64;
     }
-    Ok(cache.cost() + prices.hold * left)
+    Ok(cache.cost() + cache.prices.cost(left, 0))
 }

@@ -4,30 +4,33 @@
 //! (the one after it, being later, is the K). So a state is a server; the last request's own server stands for nothing covered.
 
 use super::log::accepted;
+use super::prices::table;
 use crate::log::{Header, Request, MOST_REQUESTS};
-use crate::prices::Prices;
+use crate::prices::{PriceFile, Prices};
 use crate::{refuse, Refusal};
 
 const NEVER: u64 = u64::MAX / 2;
 const POINTS: usize = MOST_REQUESTS + 1;
 
-/// The points of a log: home at second 0, then the requests.
+/// The points of a log: home at second 0, then the requests; and the prices of its class.
 struct Points {
+    prices: Prices,
     header: Header,
     count: usize,
     second: [u32; POINTS],
     server: [u8; POINTS],
 }
 
-fn points(file: &[u8]) -> Result<Points, Refusal> {
+fn points(prices: PriceFile, file: &[u8]) -> Result<Points, Refusal> {
+    let table = table(prices)?;
     let mut second = [0; POINTS];
     let mut server = [0; POINTS];
-    let (header, count) = accepted(file, |i, request: Request| {
+    let (header, count) = accepted(table, file, |i, request: Request| {
         second[i + 1] = request.second;
         server[i + 1] = request.server as u8;
     })?;
     server[0] = header.home;
-    Ok(Points { header, count, second, server })
+    Ok(Points { prices: table.of(header.class), header, count, second, server })
 }
 
 /// The least cost of the requests so far for each state, and each server's latest point.
@@ -45,12 +48,13 @@ impl Costs {
     }
 
     /// One request more; gives back the states in which it is K.
-    fn step(&mut self, prices: Prices, points: &Points, i: usize) -> u64 {
+    fn step(&mut self, points: &Points, i: usize) -> u64 {
+        let hold = |seconds: u32| points.prices.cost(seconds as u64, 0);
         let (at, before) = (points.server[i] as usize, points.server[i - 1] as usize);
         let previous = self.latest[at];
-        let keep = if previous < 0 { NEVER } else { prices.hold * (points.second[i] - points.second[previous as usize]) as u64 };
-        let send = if at == before { NEVER } else { prices.transfer };
-        let gap = prices.hold * (points.second[i] - points.second[i - 1]) as u64;
+        let keep = if previous < 0 { NEVER } else { hold(points.second[i] - points.second[previous as usize]) };
+        let send = if at == before { NEVER } else { points.prices.cost(0, 1) };
+        let gap = hold(points.second[i] - points.second[i - 1]);
         // K with nothing, or less than this span, covered by later spans
         let kept = if previous < 0 { NEVER } else { keep + self.cost[at] };
         let bare = kept.min(send + gap + self.cost[before]);
@@ -70,17 +74,16 @@ impl Costs {
     }
 }
 
-pub fn least(file: &[u8], costs: &mut [u64]) -> Result<u32, Refusal> {
-    let points = points(file)?;
+pub fn least(prices: PriceFile, file: &[u8], costs: &mut [u64]) -> Result<u32, Refusal> {
+    let points = points(prices, file)?;
     let n = points.count;
     if costs.len() < n + 1 {
         return refuse(31, n + 1);
     }
-    let prices = Prices::of(points.header.class);
     let mut table = Costs::new(points.header.home);
     costs[0] = 0;
     for i in 1..=n {
-        table.step(prices, &points, i);
+        table.step(&points, i);
         costs[i] = table.cost[points.server[i] as usize];
     }
     costs[n + 1..].fill(0);
@@ -117,14 +120,13 @@ fn choose(points: &Points, keeps: &[u64; POINTS], kept: &mut [bool; POINTS], hol
     }
 }
 
-pub fn plan(file: &[u8], marks: &mut [u8], rows: &mut [u32]) -> Result<(u64, u32), Refusal> {
-    let points = points(file)?;
+pub fn plan(prices: PriceFile, file: &[u8], marks: &mut [u8], rows: &mut [u32]) -> Result<(u64, u32), Refusal> {
+    let points = points(prices, file)?;
     let n = points.count;
-    let prices = Prices::of(points.header.class);
     let mut table = Costs::new(points.header.home);
     let mut keeps = [0; POINTS];
     for i in 1..=n {
-        keeps[i] = table.step(prices, &points, i);
+        keeps[i] = table.step(&points, i);
     }
     let (mut kept, mut holders) = ([false; POINTS], [0u64; POINTS]);
     choose(&points, &keeps, &mut kept, &mut holders);

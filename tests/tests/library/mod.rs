@@ -1,4 +1,4 @@
-//! The proved library as an implementation of the calls: the static library of `rt staticlib exports`.
+//! The proved library as an implementation of the calls: the static library of `rt staticlib exports`. With a price file a call has another name.
 //!
 //! Nothing checks these declarations against crates/exports/src/lib.rt. A slice crosses as a pointer and a length of its own;
 //! declared as `&[T]` it would go wrong where only one register is left, as Rust then puts both on the stack.
@@ -6,6 +6,7 @@
 use reference::calls::Calls;
 use reference::log::Header;
 use reference::online::{Cache, Served};
+use reference::prices::PriceFile;
 use reference::Refusal;
 
 #[cfg(no_exports)]
@@ -58,6 +59,16 @@ extern "C" {
         servers: *mut u16,
         servers_length: usize,
     ) -> ReadAnswer;
+    fn caching_read_with(
+        prices: *const u8,
+        prices_length: usize,
+        log: *const u8,
+        log_length: usize,
+        seconds: *mut u32,
+        seconds_length: usize,
+        servers: *mut u16,
+        servers_length: usize,
+    ) -> ReadAnswer;
     fn caching_write(
         header: FileHeader,
         seconds: *const u32,
@@ -67,7 +78,26 @@ extern "C" {
         log: *mut u8,
         log_length: usize,
     ) -> Answer;
+    fn caching_write_with(
+        prices: *const u8,
+        prices_length: usize,
+        header: FileHeader,
+        seconds: *const u32,
+        seconds_length: usize,
+        servers: *const u16,
+        servers_length: usize,
+        log: *mut u8,
+        log_length: usize,
+    ) -> Answer;
     fn caching_check(log: *const u8, log_length: usize, rows: *const u32, rows_length: usize) -> Answer;
+    fn caching_check_with(
+        prices: *const u8,
+        prices_length: usize,
+        log: *const u8,
+        log_length: usize,
+        rows: *const u32,
+        rows_length: usize,
+    ) -> Answer;
     fn caching_plan(
         log: *const u8,
         log_length: usize,
@@ -76,8 +106,27 @@ extern "C" {
         rows: *mut u32,
         rows_length: usize,
     ) -> Answer;
+    fn caching_plan_with(
+        prices: *const u8,
+        prices_length: usize,
+        log: *const u8,
+        log_length: usize,
+        marks: *mut u8,
+        marks_length: usize,
+        rows: *mut u32,
+        rows_length: usize,
+    ) -> Answer;
     fn caching_least(log: *const u8, log_length: usize, costs: *mut u64, costs_length: usize) -> Answer;
+    fn caching_least_with(
+        prices: *const u8,
+        prices_length: usize,
+        log: *const u8,
+        log_length: usize,
+        costs: *mut u64,
+        costs_length: usize,
+    ) -> Answer;
     fn caching_start(class: u8, server_count: u8, home: u8) -> CacheAnswer;
+    fn caching_start_with(prices: *const u8, prices_length: usize, class: u8, server_count: u8, home: u8) -> CacheAnswer;
     fn caching_scan(cache: Cache, second: u32, server: u16) -> ScanAnswer;
     fn caching_running(cache: Cache) -> Answer;
     fn caching_close(cache: Cache) -> CacheAnswer;
@@ -110,38 +159,68 @@ impl Calls for Library {
         unsafe { caching_sum(file.as_ptr(), file.len()) }
     }
 
-    fn read(file: &[u8], seconds: &mut [u32], servers: &mut [u16]) -> (Header, Result<u16, Refusal>) {
-        let ReadAnswer { header, answer } = unsafe {
-            caching_read(file.as_ptr(), file.len(), seconds.as_mut_ptr(), seconds.len(), servers.as_mut_ptr(), servers.len())
+    fn read(prices: PriceFile, file: &[u8], seconds: &mut [u32], servers: &mut [u16]) -> (Header, Result<u16, Refusal>) {
+        let (log, length) = (file.as_ptr(), file.len());
+        let (seconds, seconds_length) = (seconds.as_mut_ptr(), seconds.len());
+        let (servers, servers_length) = (servers.as_mut_ptr(), servers.len());
+        let ReadAnswer { header, answer } = match prices {
+            None => unsafe { caching_read(log, length, seconds, seconds_length, servers, servers_length) },
+            Some(file) => unsafe {
+                caching_read_with(file.as_ptr(), file.len(), log, length, seconds, seconds_length, servers, servers_length)
+            },
         };
         let header = Header { class: header.class, server_count: header.server_count, home: header.home, id: header.id };
         (header, answer.value().map(|count| count.try_into().unwrap()))
     }
 
-    fn write(header: &Header, seconds: &[u32], servers: &[u16], out: &mut [u8]) -> Result<u64, Refusal> {
+    fn write(prices: PriceFile, header: &Header, seconds: &[u32], servers: &[u16], out: &mut [u8]) -> Result<u64, Refusal> {
         let header = FileHeader { class: header.class, server_count: header.server_count, home: header.home, id: header.id };
-        let answer = unsafe {
-            caching_write(header, seconds.as_ptr(), seconds.len(), servers.as_ptr(), servers.len(), out.as_mut_ptr(), out.len())
+        let (seconds, seconds_length) = (seconds.as_ptr(), seconds.len());
+        let (servers, servers_length) = (servers.as_ptr(), servers.len());
+        let (out, length) = (out.as_mut_ptr(), out.len());
+        let answer = match prices {
+            None => unsafe { caching_write(header, seconds, seconds_length, servers, servers_length, out, length) },
+            Some(file) => unsafe {
+                caching_write_with(file.as_ptr(), file.len(), header, seconds, seconds_length, servers, servers_length, out, length)
+            },
         };
         answer.value()
     }
 
-    fn check(file: &[u8], rows: &[u32]) -> Result<u64, Refusal> {
-        unsafe { caching_check(file.as_ptr(), file.len(), rows.as_ptr(), rows.len()) }.value()
+    fn check(prices: PriceFile, file: &[u8], rows: &[u32]) -> Result<u64, Refusal> {
+        let (log, length) = (file.as_ptr(), file.len());
+        let answer = match prices {
+            None => unsafe { caching_check(log, length, rows.as_ptr(), rows.len()) },
+            Some(file) => unsafe { caching_check_with(file.as_ptr(), file.len(), log, length, rows.as_ptr(), rows.len()) },
+        };
+        answer.value()
     }
 
-    fn plan(file: &[u8], marks: &mut [u8], rows: &mut [u32]) -> Result<(u64, u32), Refusal> {
-        let answer = unsafe { caching_plan(file.as_ptr(), file.len(), marks.as_mut_ptr(), marks.len(), rows.as_mut_ptr(), rows.len()) };
+    fn plan(prices: PriceFile, file: &[u8], marks: &mut [u8], rows: &mut [u32]) -> Result<(u64, u32), Refusal> {
+        let (log, length) = (file.as_ptr(), file.len());
+        let (marks, marks_length) = (marks.as_mut_ptr(), marks.len());
+        let (rows, rows_length) = (rows.as_mut_ptr(), rows.len());
+        let answer = match prices {
+            None => unsafe { caching_plan(log, length, marks, marks_length, rows, rows_length) },
+            Some(file) => unsafe { caching_plan_with(file.as_ptr(), file.len(), log, length, marks, marks_length, rows, rows_length) },
+        };
         answer.outcome().map(|(cost, number)| (cost, number.try_into().unwrap()))
     }
 
-    fn least(file: &[u8], costs: &mut [u64]) -> Result<u32, Refusal> {
-        let answer = unsafe { caching_least(file.as_ptr(), file.len(), costs.as_mut_ptr(), costs.len()) };
+    fn least(prices: PriceFile, file: &[u8], costs: &mut [u64]) -> Result<u32, Refusal> {
+        let (log, length) = (file.as_ptr(), file.len());
+        let answer = match prices {
+            None => unsafe { caching_least(log, length, costs.as_mut_ptr(), costs.len()) },
+            Some(file) => unsafe { caching_least_with(file.as_ptr(), file.len(), log, length, costs.as_mut_ptr(), costs.len()) },
+        };
         answer.value().map(|count| count.try_into().unwrap())
     }
 
-    fn start(class: u8, server_count: u8, home: u8) -> (Cache, Result<(), Refusal>) {
-        let CacheAnswer { cache, answer } = unsafe { caching_start(class, server_count, home) };
+    fn start(prices: PriceFile, class: u8, server_count: u8, home: u8) -> (Cache, Result<(), Refusal>) {
+        let CacheAnswer { cache, answer } = match prices {
+            None => unsafe { caching_start(class, server_count, home) },
+            Some(file) => unsafe { caching_start_with(file.as_ptr(), file.len(), class, server_count, home) },
+        };
         (cache, answer.value().map(|value| assert_eq!(value, 0)))
     }
 

@@ -8,8 +8,8 @@ use Rattle.log.proofs.conditions.setup_fault.Tie as tie
 class-count-requires : tie.Need-class-count-requires
 class-count-requires c κs = search needs
 
-u16-from-u8-requires : tie.Need-u16-from-u8-requires
-u16-from-u8-requires c κs = search needs
+class-outside-requires : tie.Need-class-outside-requires
+class-outside-requires c κs = search needs
 
 or-else-requires : tie.Need-or-else-requires
 or-else-requires c κs = search needs
@@ -31,7 +31,7 @@ returns c =
       c .before .before .or-else2 .ensures,
       c .before .before .before .count-outside .ensures,
       c .before .before .before .before .or-else .ensures,
-      c .before .before .before .before .before .u16-from-u8 .ensures .0,
+      c .before .before .before .before .before .class-outside .ensures,
       c .before .before .before .before .before .before .class-count .ensures,
     )
 
@@ -40,7 +40,7 @@ setup-fault-spec =
     tie.close
     (tie.spec
     class-count-requires
-    u16-from-u8-requires
+    class-outside-requires
     or-else-requires
     count-outside-requires
     or-else-requires-2

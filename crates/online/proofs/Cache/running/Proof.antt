@@ -1,5 +1,7 @@
 -- `online::Cache::running` meets its contract. Assumes nothing.
 use borrow.Author.Needs.{needs}
+use mathlib.Core.Path.{sym, _∙_}
+use Rattle.online.specs.Passed.{running-passed}
 use Rattle.online.specs.Answers.{running-by, running-answer}
 use Rattle.online.proofs.Cache.running.Statement.{statement}
 use Rattle.online.proofs.Cache.running.Tie as tie
@@ -18,7 +20,7 @@ enum-told : tie.Need-enum-told
 enum-told c = search needs
 
 running-cost-requires : tie.Need-running-cost-requires
-running-cost-requires c κs = search needs
+running-cost-requires c κs = running-passed _ (sym (c .before .before .state-fault .ensures) ∙ c .enum-told .given .1) .priced
 
 returns-2 : tie.Need-returns-2
 unfolding running-answer running-by

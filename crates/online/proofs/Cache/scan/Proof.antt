@@ -2,6 +2,7 @@
 use borrow.Author.Needs.{needs}
 use mathlib.Core.Path.{sym, _∙_}
 use Rattle.online.specs.Answers.{scanned-by, scanned}
+use Rattle.online.specs.Rules.{accept}
 use Rattle.online.specs.Passed.{scan-passed}
 use Rattle.online.proofs.Cache.scan.Statement.{statement}
 use Rattle.online.proofs.Cache.scan.Tie as tie
@@ -39,7 +40,11 @@ accept-requires c κs =
     )
 
 running-cost-requires : tie.Need-running-cost-requires
-running-cost-requires c κs = search needs
+unfolding accept
+running-cost-requires c κs =
+    let told = c .before .before .before in
+    let a = told .before .before .before .before .args in
+    rw (c .accept .ensures) (scan-passed (a .self) (a .second) (a .server) (sym (told .before .before .scan-fault .ensures) ∙ told .enum-told .given .1) .intact .priced)
 
 mark-requires : tie.Need-mark-requires
 mark-requires c κs = search needs

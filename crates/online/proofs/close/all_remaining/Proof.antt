@@ -8,7 +8,7 @@ use Rattle.base.specs.SetLaws.{members-cut}
 use Rattle.online.specs.Servers.{across}
 use Rattle.online.specs.Rules.{window-of, copy-at, use-at, remaining}
 use Rattle.online.specs.Walk.{given, sum-first, sum-next, sum-last, sum-most}
-use Rattle.online.specs.ClosingLaws.{remaining-none, remaining-most}
+use Rattle.online.specs.ClosingLaws.{window-most, remaining-none, remaining-most}
 use Rattle.online.proofs.close.all_remaining.Statement.{statement}
 use Rattle.online.proofs.close.all_remaining.Tie as tie
 
@@ -49,11 +49,11 @@ add-sum c =
     let y = k .member .result in
     let f = remaining (a .t1) in
     let e : c .remaining .result ≡ f y = c .remaining .ensures (a .t1) (p .1) (rw (c .before .before .size-from-u16 .ensures .0)) in
-    let window : window-of (a .t1) < 2 ^ 32 = rw (← p .1 .window) (search needs) in
     let fits : c .remaining .result + l .sum < 2 ^ 64 = omega (
       arith,
       e,
       l .inv,
+      window-most (a .t1) (p .0),
       sum-next 64 (l .left) f y (k .member .ensures .1) (k .member .ensures .0),
       sum-most 64 (cut (l .left) y) (window-of (a .t1)) f (remaining-most (a .t1) (p .0)),
     ) in

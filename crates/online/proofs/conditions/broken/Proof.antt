@@ -8,9 +8,12 @@ use Rattle.online.specs.ConditionLaws.{any-holds, either-fails}
 use Rattle.online.proofs.conditions.broken.Statement.{statement}
 use Rattle.online.proofs.conditions.broken.Tie as tie
 
+price-outside-requires : tie.Need-price-outside-requires
+price-outside-requires c κs = search needs
+
 returns : tie.Need-returns
 unfolding broken
-returns c = sym (any-holds (faults (c .before .before .args .cache)) 0 (lt-ltb _ _ (c .if1 .taken)))
+returns c = sym (any-holds (faults (c .before .before .args .cache)) 0 (sym (c .before .price-outside .ensures) ∙ c .if1 .taken))
 
 count-outside-requires : tie.Need-count-outside-requires
 count-outside-requires c κs = search needs
@@ -57,13 +60,14 @@ unfolding broken
 returns-9 c = sym (any-holds (faults (c .before .before .before .before .before .before .before .before .before .before .before .before .before .before .before .before .before .before .before .args .cache)) 8 (lt-ltb _ _ (c .if9 .taken)))
 
 servers-broken-requires : tie.Need-servers-broken-requires
-servers-broken-requires c κs = search needs
+servers-broken-requires c κs = c .before .before .before .before .before .before .before .before .before .before .before .before .before .before .before .before .before .before .before .pre
 
 returns-10 : tie.Need-returns-10
 unfolding broken any-of
 returns-10 c =
     rw (
-      le-ltb _ _ (c .before .before .before .before .before .before .before .before .before .before .before .before .before .before .before .before .before .before .if1 .left),
+      ← c .before .before .before .before .before .before .before .before .before .before .before .before .before .before .before .before .before .before .before .price-outside .ensures,
+      c .before .before .before .before .before .before .before .before .before .before .before .before .before .before .before .before .before .before .if1 .left,
       ← c .before .before .before .before .before .before .before .before .before .before .before .before .before .before .before .before .before .count-outside .ensures,
       c .before .before .before .before .before .before .before .before .before .before .before .before .before .before .before .before .if2 .left,
       le-ltb _ _ (c .before .before .before .before .before .before .before .before .before .before .before .before .before .before .if3 .left),
@@ -81,6 +85,7 @@ pub broken-spec : {M : Type 1} → statement M
 broken-spec =
     tie.close
     (tie.spec
+    price-outside-requires
     returns
     count-outside-requires
     returns-2

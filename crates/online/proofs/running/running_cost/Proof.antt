@@ -5,9 +5,6 @@ use Rattle.online.specs.Widths.{running-fits}
 use Rattle.online.proofs.running.running_cost.Statement.{statement}
 use Rattle.online.proofs.running.running_cost.Tie as tie
 
-class-prices-requires : tie.Need-class-prices-requires
-class-prices-requires c κs = search needs
-
 times-requires : tie.Need-times-requires
 times-requires c κs = search needs
 
@@ -18,13 +15,13 @@ add-result : tie.Need-add-result
 unfolding running
 add-result c =
     let cache = c .before .before .before .args .cache in
-    let f = running-fits cache (search needs) (search needs) in
-    record { fits = rw (c .times2 .ensures, c .before .times .ensures, c .before .before .class-prices .ensures) f }
+    let f = running-fits cache (c .before .before .before .pre) (search needs) (search needs) in
+    record { fits = rw (c .times2 .ensures, c .before .times .ensures) f }
 
 returns : tie.Need-returns
 unfolding running
-returns c = rw (c .times2 .ensures, c .before .times .ensures, c .before .before .class-prices .ensures)
+returns c = rw (c .times2 .ensures, c .before .times .ensures)
 
 pub running-cost-spec : {M : Type 1} → statement M
 running-cost-spec =
-    tie.close (tie.spec class-prices-requires times-requires times-requires-2 add-result returns)
+    tie.close (tie.spec times-requires times-requires-2 add-result returns)

@@ -4,15 +4,12 @@ use Rattle.online.specs.Rules.{window-of}
 use Rattle.online.proofs.state.window_of.Statement.{statement}
 use Rattle.online.proofs.state.window_of.Tie as tie
 
-class-prices-requires : tie.Need-class-prices-requires
-class-prices-requires c κs = search needs
-
 window-requires : tie.Need-window-requires
 window-requires c κs = search needs
 
 returns : tie.Need-returns
 unfolding window-of
-returns c = rw (c .window .ensures, c .before .class-prices .ensures)
+returns c = c .window .ensures
 
 pub window-of-spec : {M : Type 1} → statement M
-window-of-spec = tie.close (tie.spec class-prices-requires window-requires returns)
+window-of-spec = tie.close (tie.spec window-requires returns)

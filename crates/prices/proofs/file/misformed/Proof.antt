@@ -1,6 +1,6 @@
 -- `prices::file::misformed` meets its contract. Assumes nothing.
 use borrow.Author.Tests.{eq-eqb, ne-eqb, lt-ltb, le-ltb}
-use Rattle.prices.specs.PriceFile.{class-count, prices-offset}
+use Rattle.prices.specs.PriceFile.{class-count}
 use borrow.Author.Needs.{needs}
 use Rattle.prices.proofs.file.misformed.Statement.{statement}
 use Rattle.prices.proofs.file.misformed.Tie as tie
@@ -19,25 +19,22 @@ returns-3 : tie.Need-returns-3
 unfolding class-count
 returns-3 c = rw (le-ltb _ _ (c .before .before .if1 .left), ← c .before .before .before .at16 .ensures, ne-eqb _ _ (c .before .if2 .left), lt-ltb _ _ (c .if3 .taken))
 
-at16-requires-2 : tie.Need-at16-requires-2
-at16-requires-2 c κs = search needs
+offset-differs-requires : tie.Need-offset-differs-requires
+offset-differs-requires c κs = search needs
 
 returns-4 : tie.Need-returns-4
-unfolding class-count prices-offset
-returns-4 c = rw (le-ltb _ _ (c .before .before .before .before .if1 .left), ← c .before .before .before .before .before .at16 .ensures, ne-eqb _ _ (c .before .before .before .if2 .left), le-ltb _ _ (c .before .before .if3 .left), ← c .before .at162 .ensures, ne-eqb _ _ (c .if4 .taken))
+unfolding class-count
+returns-4 c =
+    rw (le-ltb _ _ (c .before .before .before .before .if1 .left), ← c .before .before .before .before .before .at16 .ensures, ne-eqb _ _ (c .before .before .before .if2 .left), le-ltb _ _ (c .before .before .if3 .left), ← c .before .offset-differs .ensures, c .if4 .taken)
 
-size-from-u16-requires : tie.Need-size-from-u16-requires
-size-from-u16-requires c κs = search needs
-
-mul-result : tie.Need-mul-result
-mul-result c = search needs
-
-add-result : tie.Need-add-result
-add-result c = search needs
+length-differs-requires : tie.Need-length-differs-requires
+length-differs-requires c κs = search needs
 
 returns-5 : tie.Need-returns-5
-unfolding class-count prices-offset
-returns-5 c = rw (c .size-from-u16 .ensures .0, le-ltb _ _ (c .before .before .before .before .before .if1 .left), ← c .before .before .before .before .before .before .at16 .ensures, ne-eqb _ _ (c .before .before .before .before .if2 .left), le-ltb _ _ (c .before .before .before .if3 .left), ← c .before .before .at162 .ensures, eq-eqb _ _ (c .before .if4 .left))
+unfolding class-count
+returns-5 c =
+    rw (le-ltb _ _ (c .before .before .before .before .before .if1 .left), ← c .before .before .before .before .before .before .at16 .ensures, ne-eqb _ _ (c .before .before .before .before .if2 .left), le-ltb _ _ (c .before .before .before .if3 .left), ← c .before .before .offset-differs .ensures, c .before .if4 .left)
+    (c .length-differs .ensures)
 
 pub misformed-spec : {M : Type 1} → statement M
 misformed-spec =
@@ -47,9 +44,7 @@ misformed-spec =
     returns
     returns-2
     returns-3
-    at16-requires-2
+    offset-differs-requires
     returns-4
-    size-from-u16-requires
-    mul-result
-    add-result
+    length-differs-requires
     returns-5)

@@ -33,15 +33,16 @@ pair-at-requires c κs =
 outside-requires : tie.Need-outside-requires Inv-loop μ-loop
 outside-requires c κs = search needs
 
-u64-from-u16-requires : tie.Need-u64-from-u16-requires Inv-loop μ-loop
-u64-from-u16-requires c κs = search needs
+price-refused-requires : tie.Need-price-refused-requires Inv-loop μ-loop
+price-refused-requires c κs = search needs
 
 returns : tie.Need-returns Inv-loop μ-loop
 returns c =
     let l = c .before .before .before .before .before .loop in
     let a = c .before .before .before .before .before .before .before .before .args in
-    pair-refused (a .file .now) (l .class) _ (omega (arith, l .inv .1)) (l .inv .2)
-    (sym (c .before .before .outside .ensures ∙ ap outside (c .before .before .before .pair-at .ensures)) ∙ c .before .if1 .taken) (c .u64-from-u16 .ensures .0)
+    c .price-refused .ensures
+    ∙ pair-refused (a .file .now) (l .class) (omega (arith, l .inv .1)) (l .inv .2)
+    (sym (c .before .before .outside .ensures ∙ ap outside (c .before .before .before .pair-at .ensures)) ∙ c .before .if1 .taken)
 
 add-class : tie.Need-add-class Inv-loop μ-loop
 add-class c = search needs
@@ -75,7 +76,7 @@ pairs-fault-spec =
     loop-holds
     pair-at-requires
     outside-requires
-    u64-from-u16-requires
+    price-refused-requires
     returns
     add-class
     loop-less

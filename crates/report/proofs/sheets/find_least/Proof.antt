@@ -1,26 +1,28 @@
 -- `report::sheets::find_least` meets its contract. Assumes nothing.
 use borrow.Author.Needs.{needs}
-use Rattle.prices.specs.Tariff.{built-in}
 use Rattle.report.specs.SheetLaws.{least-passes}
 use Rattle.planner.specs.Answers.{least-verdict}
 use Rattle.base.specs.declared.Verdict.the-variants.{Passed}
+use Rattle.prices.specs.PriceLaws.{file-priced}
+use Rattle.prices.specs.Tariff.{price-file}
 use mathlib.Core.Path.{_≡_}
 use lib.ListN.{length}
 use Rattle.report.proofs.sheets.find_least.Statement.{statement}
 use Rattle.report.proofs.sheets.find_least.Tie as tie
 
-least-requires : tie.Need-least-requires
-least-requires c κs = search needs
+least-with-requires : tie.Need-least-with-requires
+least-with-requires c κs = search needs
 
 same-length : tie.Need-same-length
 same-length c = search needs
 
 returns : tie.Need-returns
 returns c =
-    let s = c .before .before .before .before .before .before in
+    let s = c .before .before .before .before .before .before .before in
     let a = s .args in
-    let v : least-verdict built-in (a .log .now) (length (a .costs .now)) ≡ Passed = rw (s .pre .1) (least-passes (a .log .now) (s .pre .0)) in
-    rw v at (c .before .before .least .ensures .1)
+    let t = price-file (a .prices .now) in
+    let v : least-verdict t (a .log .now) (length (a .costs .now)) ≡ Passed = rw (s .pre .1) (least-passes t (file-priced (a .prices .now)) (a .log .now) (s .pre .0)) in
+    rw (← v) (c .before .before .least-with .ensures .1)
 
 pub find-least-spec : {M : Type 1} → statement M
-find-least-spec = tie.close (tie.spec least-requires same-length returns)
+find-least-spec = tie.close (tie.spec least-with-requires same-length returns)

@@ -1,0 +1,20 @@
+-- `exports::caches::caching_start_with` meets its contract. Assumes nothing.
+use borrow.Author.Needs.{needs}
+use Rattle.exports.proofs.caches.caching_start_with.Statement.{statement}
+use Rattle.exports.proofs.caches.caching_start_with.Tie as tie
+
+given-requires : tie.Need-given-requires
+given-requires c κs = search needs
+
+start-with-requires : tie.Need-start-with-requires
+start-with-requires c κs = search needs
+
+start-answer-requires : tie.Need-start-answer-requires
+start-answer-requires c κs = search needs
+
+returns : tie.Need-returns
+returns c = rw (c .start-answer .ensures, c .before .start-with .ensures, c .before .before .given .ensures)
+
+pub caching-start-with-spec : {M : Type 1} → statement M
+caching-start-with-spec =
+    tie.close (tie.spec given-requires start-with-requires start-answer-requires returns)

@@ -1,0 +1,90 @@
+-- Price files (02's Req 05): which load, that their refusals come before all others, and demand 3 with Req 02's bound for every tariff in one statement.
+use mathlib.Core.List.{List}
+use mathlib.Core.Logic.{_↔_}
+use mathlib.Core.Path.{_≡_}
+use Prim.Native.Nat.{ℕ, _≤_, _<_}
+use lib.ListN.{length}
+use Rattle.base.specs.declared.Refusal.{Refusal}
+use Rattle.base.specs.declared.Verdict.the-variants.{Passed, Refused}
+use Rattle.prices.specs.Prices.{prices-of}
+use Rattle.prices.specs.PriceFile.{table-in}
+use Rattle.prices.specs.PriceLaws.{In-range, given-priced}
+use Rattle.prices.specs.FileLaws.{built-in-bytes, built-in-file, Loads, loads-exactly}
+use Rattle.prices.specs.Tariff.{Tariff, built-in, price-file, Given}
+use Rattle.log.specs.declared.Setup.{Setup}
+use Rattle.log.specs.Fields.{class-of, request-count}
+use Rattle.log.specs.Conditions.{Accepted, verdict-of}
+use Rattle.log.specs.Contents.{Contents}
+use Rattle.log.specs.Answers.{read-verdict, write-verdict}
+use Rattle.checker.specs.Answers.{check-verdict-of}
+use Rattle.planner.specs.Answers.{plan-verdict, least-verdict}
+use Rattle.online.specs.Answers.{start-verdict, started}
+use Rattle.bounds.specs.Calls.{Call, Taken-close}
+use Rattle.bounds.specs.Claim.{Claim}
+use Rattle.report.specs.Sheet.{sheet-verdict}
+use Rattle.report.specs.Output.{output, price-limit}
+use Rattle.report.specs.LongInput.{enough-prices}
+use Rattle.model.specs.LogRequests.{prices-in}
+use Rattle.model.specs.LogRequestLaws.{log-priced}
+use Rattle.guarantees.specs.Demand3.{Planned-best, planned-best, online-within-three}
+use Rattle.guarantees.specs.Closes.{Closed-within, closes-within}
+use lib.ListN.{take}
+use mathlib.Core.Path.{refl}
+
+-- THE FILES THAT LOAD: count 1 to 256, offset 4, length to the count, every price from 1 to 1,000,000
+pub file-loads : (file : List ℕ) → (price-file file .judged ≡ Passed) ↔ Loads file
+file-loads = loads-exactly
+
+-- every class of what loads, and of the built-in table, is in range, and so are the prices of each log accepted with it
+pub class-in-range : (t : Tariff) → Given t → t .judged ≡ Passed → (class : ℕ) → class < length (t .table) → In-range (prices-of (t .table) class)
+class-in-range = given-priced
+
+pub log-in-range : (t : Tariff) → Given t → (log : List ℕ) → Accepted t log → In-range (prices-in t log)
+log-in-range t g = log-priced t (given-priced t g)
+
+-- the eight built-in classes as a file are the built-in tariff, so every answer and every sheet is the same
+pub built-in-as-file : price-file built-in-bytes ≡ built-in
+built-in-as-file = built-in-file built-in-bytes refl
+
+-- a refused file refuses each call, whatever else the call is given
+pub record First-of-all (file : List ℕ) (r : Refusal) : Type 0 where
+  pub log : (log : List ℕ) → verdict-of (price-file file) log ≡ Refused r
+  pub read : (log : List ℕ) (seconds servers : ℕ) → read-verdict (price-file file) log seconds servers ≡ Refused r
+  pub write : (c : Contents) (log : ℕ) → write-verdict (price-file file) c log ≡ Refused r
+  pub check : (log rows : List ℕ) → check-verdict-of (price-file file) log rows ≡ Refused r
+  pub plan : (log : List ℕ) (marks rows : ℕ) → plan-verdict (price-file file) log marks rows ≡ Refused r
+  pub least : (log : List ℕ) (costs : ℕ) → least-verdict (price-file file) log costs ≡ Refused r
+  pub start : (s : Setup) → start-verdict (price-file file) s ≡ Refused r
+  pub sheet : (log : List ℕ) (text : ℕ) → sheet-verdict (price-file file) log text ≡ Refused r
+
+-- THE FILE COMES FIRST
+pub file-first : (file : List ℕ) (r : Refusal) → price-file file .judged ≡ Refused r → First-of-all file r
+unfolding verdict-of read-verdict write-verdict check-verdict-of plan-verdict least-verdict start-verdict sheet-verdict
+file-first file r e =
+    record {
+      log = λ log. rw e;
+      read = λ log seconds servers. rw e;
+      write = λ c log. rw e;
+      check = λ log rows. rw e;
+      plan = λ log marks rows. rw e;
+      least = λ log costs. rw e;
+      start = λ s. rw e;
+      sheet = λ log text. rw e;
+    }
+
+-- the program reads no more of a price file than one byte past the longest: what it writes is the same
+pub first-bytes-enough : (file log : List ℕ) → output (price-file (take price-limit file)) log ≡ output (price-file file) log
+first-bytes-enough = enough-prices
+
+-- demand 3 by one tariff
+pub record Demand-3 (t : Tariff) : Type 0 where
+  -- every log accepted with it, cut to its first requests
+  pub planner : (log : List ℕ) (k : ℕ) → Accepted t log → k ≤ request-count log → Planned-best t log k
+  -- every start that is not refused, and every list of calls after it
+  pub online : (s : Setup) → start-verdict t s ≡ Passed → (calls : List Call) → Claim (t .table) s (started t s .cache) calls
+  -- every close among them that is not refused
+  pub closes : (s : Setup) → start-verdict t s ≡ Passed → (calls : List Call) (x : Taken-close (started t s .cache) calls) → Closed-within t s (x .before)
+
+-- DEMAND 3 FOR EVERY TABLE: with any price file, and without one
+pub demand-3 : (t : Tariff) → Given t → Demand-3 t
+demand-3 t g = record { planner = planned-best t; online = online-within-three t g; closes = closes-within t g }
