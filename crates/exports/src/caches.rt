@@ -13,7 +13,6 @@ use online::CloseOutcome;
 use online::RunningCost;
 use online::ScanOutcome;
 use online::StartOutcome;
-use online::Started;
 
 #[repr(C)]
 pub struct CacheAnswer {
@@ -49,22 +48,17 @@ fn given(class: u8, server_count: u8, home: u8) -> Setup
     }
 }
 
-fn start_answer(started: Started) -> CacheAnswer
-    ensures { λ r. ⌜ r ≡ start-answer started ⌝ }
+#[no_mangle]
+pub extern "C" fn caching_start(class: u8, server_count: u8, home: u8) -> CacheAnswer
+    ensures { λ r. ⌜ r ≡ start-answer (started built-in (given class «server_count» home)) ⌝ }
 {
+    let started = Cache::start(given(class, server_count, home));
     let cache = started.cache;
     let outcome = started.outcome;
     CacheAnswer {
         cache,
         answer: of_start(outcome),
     }
-}
-
-#[no_mangle]
-pub extern "C" fn caching_start(class: u8, server_count: u8, home: u8) -> CacheAnswer
-    ensures { λ r. ⌜ r ≡ start-answer (started built-in (given class «server_count» home)) ⌝ }
-{
-    start_answer(Cache::start(given(class, server_count, home)))
 }
 
 #[no_mangle]
@@ -76,7 +70,13 @@ pub extern "C" fn caching_start_with(
 ) -> CacheAnswer
     ensures { λ r. ⌜ r ≡ start-answer (started (price-file (now (prices .entry))) (given class «server_count» home)) ⌝ }
 {
-    start_answer(Cache::start_with(prices, given(class, server_count, home)))
+    let started = Cache::start_with(prices, given(class, server_count, home));
+    let cache = started.cache;
+    let outcome = started.outcome;
+    CacheAnswer {
+        cache,
+        answer: of_start(outcome),
+    }
 }
 
 // Value 0: kept; value 1: sent, and the source.

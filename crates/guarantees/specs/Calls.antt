@@ -206,4 +206,4 @@ close-unchanged c r e = ap (λ (v : Verdict). closed-by v c .cache) e
 
 pub start-zeros : (t : Tariff) (s : Setup) (r : Refusal) → start-verdict t s ≡ Refused r → started t s .cache ≡ zeros
 unfolding started started-by
-start-zeros t s r e = ap (λ (v : Verdict). started-by v t s .cache) e
+start-zeros t s r e = ap (λ (v : Verdict). started-by v (t .table) s .cache) e

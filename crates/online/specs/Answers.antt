@@ -1,9 +1,11 @@
 -- What a start, a scan, the running cost and a close answer, and the state that they give back: unchanged where refused, zeros for a start. Assumes nothing.
+use mathlib.Core.List.{List}
 use Prim.Native.Nat.{ℕ}
 use Rattle.base.specs.Choice.{pick}
 use Rattle.base.specs.Refusals.{first, otherwise}
 use Rattle.base.specs.declared.Verdict.{Verdict}
 use Rattle.base.specs.declared.Verdict.the-variants.{Passed, Refused}
+use Rattle.prices.specs.declared.Prices.{Prices}
 use Rattle.prices.specs.Tariff.{Tariff}
 use Rattle.log.specs.declared.Setup.{Setup}
 use Rattle.log.specs.Conditions.{setup-conditions}
@@ -37,13 +39,13 @@ unfoldable pub close-verdict : Cache → Verdict
 close-verdict c = first (close-conditions c)
 
 -- a start by its verdict: ready, or refused with a state of zeros
-unfoldable pub started-by : Verdict → Tariff → Setup → Started
-started-by Passed t s = record { cache = fresh (t .table) s; outcome = start.Ready }
-started-by (Refused r) t s = record { cache = zeros; outcome = start.Refused r }
+unfoldable pub started-by : Verdict → List Prices → Setup → Started
+started-by Passed table s = record { cache = fresh table s; outcome = start.Ready }
+started-by (Refused r) table s = record { cache = zeros; outcome = start.Refused r }
 
 -- a start
 unfoldable pub started : Tariff → Setup → Started
-started t s = started-by (start-verdict t s) t s
+started t s = started-by (start-verdict t s) (t .table) s
 
 -- K, or S from the last server, with a cost
 unfoldable pub mark-outcome : Cache → ℕ → ℕ → ℕ → ScanOutcome

@@ -1,4 +1,4 @@
--- The lists and words of a fresh state, as the code makes them. Assumes nothing.
+-- A fresh state as the code makes it: from prices that are a class's of some table, and its lists and words. Assumes nothing.
 use mathlib.Core.List.{List, [], _∷_, _++_}
 use mathlib.Core.Logic.{_⊎_, inl, inr, _≢_}
 use mathlib.Core.Path.{_≡_, refl, ap, _∙_}
@@ -10,7 +10,27 @@ use borrow.Author.Tests.{eq-eqb, ne-eqb, lt-ltb, le-ltb}
 use Rattle.base.specs.Choice.{pick, le-or-lt, same-or-not}
 use Rattle.base.specs.Sets.{put}
 use Rattle.base.specs.Lists.{build}
+use Rattle.base.specs.Refusals.{from}
+use Rattle.base.specs.RefusalLaws.{from-otherwise}
+use Rattle.base.specs.declared.Verdict.{Verdict}
+use Rattle.prices.specs.declared.Prices.{Prices}
+use Rattle.prices.specs.Prices.{prices-of}
+use Rattle.prices.specs.Tariff.{tariff}
+use Rattle.log.specs.declared.Setup.{Setup}
+use Rattle.log.specs.Conditions.{setup-conditions}
+use Rattle.online.specs.declared.Started.{Started}
+use Rattle.online.specs.Answers.{start-verdict, started-by, started}
 use Rattle.online.specs.Servers.{set-of}
+
+-- something holds of each table in which the class has these prices
+abbrev pub With-prices : Prices → Setup → (List Prices → Type 0) → Type 0
+With-prices p s P = (table : List Prices) → p ≡ prices-of table (s .«class») → P table
+
+-- a start by what its price file was answered, and then the setup
+pub start-made : (v w : Verdict) (table : List Prices) (s : Setup) (x : Started) → w ≡ from v (setup-conditions table s) → x ≡ started-by w table s
+    → x ≡ started (tariff v table) s
+unfolding started start-verdict
+start-made v w table s x e f = f ∙ ap (λ (u : Verdict). started-by u table s) (e ∙ from-otherwise v (setup-conditions table s))
 
 -- one more of the same at the end
 replicate-end : (n x : ℕ) → replicate n x ++ (x ∷ []) ≡ replicate (suc n) x

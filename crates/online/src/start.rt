@@ -1,9 +1,9 @@
 // A start: the copy at home, or 37, 38, 3 to 5.
 ghost use mathlib.Core.Path.{_≡_};
-ghost use Rattle.prices.specs.PriceFile.{table-in};
-ghost use Rattle.prices.specs.Tariff.{tariff, built-in, price-file};
+ghost use Rattle.prices.specs.Tariff.{built-in, price-file};
 ghost use Rattle.online.specs.Rules.{fresh, zeros};
-ghost use Rattle.online.specs.Answers.{started};
+ghost use Rattle.online.specs.Answers.{started-by, started};
+ghost use Rattle.online.specs.StartLaws.{With-prices};
 use crate::Cache;
 use crate::StartOutcome;
 use crate::Started;
@@ -17,13 +17,13 @@ use prices::built_in;
 use prices::file_fault;
 use prices::of_class;
 
-// The prices of the class, the copy at home, home as the last server, and nothing counted yet.
-fn fresh(prices: &[u8], setup: Setup) -> Cache
-    ensures { λ r. ⌜ r ≡ fresh (table-in (now (prices .entry))) setup ⌝ }
+// The prices, the copy at home, home as the last server, and nothing counted yet.
+fn fresh(prices: Prices, setup: Setup) -> Cache
+    ensures { λ r. ⌜ With-prices prices setup (λ table. r ≡ fresh table setup) ⌝ }
 {
     let last = u16_from_u8(setup.home);
     Cache {
-        prices: of_class(prices, setup.class),
+        prices,
         server_count: setup.server_count,
         last,
         second: 0,
@@ -57,11 +57,10 @@ fn zeros() -> Cache
     }
 }
 
-// A fresh state by a price file and what that was answered, or a refusal and a state of zeros.
-fn start_by(v: Verdict, prices: &[u8], setup: Setup) -> Started
-    ensures { λ r. ⌜ r ≡ started (tariff v (table-in (now (prices .entry)))) setup ⌝ }
+// A fresh state, or a refusal and a state of zeros.
+fn given(v: Verdict, prices: Prices, setup: Setup) -> Started
+    ensures { λ r. ⌜ With-prices prices setup (λ table. r ≡ started-by v table setup) ⌝ }
 {
-    let v = setup_fault(v, prices, setup);
     if let Verdict::Refused(r) = v {
         let blank = zeros();
         return Started {
@@ -82,13 +81,15 @@ impl Cache {
         ensures { λ r. ⌜ r ≡ started built-in setup ⌝ }
     {
         let prices = built_in();
-        start_by(Verdict::Passed, &prices, setup)
+        let v = setup_fault(Verdict::Passed, &prices, setup);
+        given(v, of_class(&prices, setup.class), setup)
     }
 
     // A start by a price file: 37, 38, 3 to 5.
     pub fn start_with(prices: &[u8], setup: Setup) -> Started
         ensures { λ r. ⌜ r ≡ started (price-file (now (prices .entry))) setup ⌝ }
     {
-        start_by(file_fault(prices), prices, setup)
+        let v = setup_fault(file_fault(prices), prices, setup);
+        given(v, of_class(prices, setup.class), setup)
     }
 }

@@ -1,10 +1,11 @@
 // Price files (02's Req 05): the count of classes, the offset of the prices, then hold and transfer price of each class. The built-in table is one.
 ghost use mathlib.Core.Path.{_≡_};
 ghost use Prim.Native.Nat.{_+_, _*_, _<_, _≤_};
-ghost use mathlib.Core.Bool.{not};
+ghost use mathlib.Core.Bool.{true, not};
 ghost use lib.Dec.{eqb};
 ghost use lib.ListN.{length};
-ghost use Rattle.base.specs.declared.Verdict.the-variants.{Refused};
+ghost use Rattle.base.specs.declared.Verdict.the-variants.{Passed, Refused};
+ghost use Rattle.base.specs.Choice.{either};
 ghost use Rattle.base.specs.Refusals.{first, each};
 ghost use Rattle.prices.specs.Prices.{prices-of};
 ghost use Rattle.prices.specs.PriceFile.{class-count, prices-offset, pair-at, table-in, form-condition, pair-condition, file-conditions};
@@ -182,6 +183,31 @@ fn pairs_fault(file: &[u8]) -> Verdict
     Verdict::Passed
 }
 
+// One test or another.
+fn or(a: bool, b: bool) -> bool
+    ensures { λ r. ⌜ r ≡ either a b ⌝ }
+{
+    if a {
+        return true;
+    }
+    b
+}
+
+// All prices are in range, looked at without a stop. Which class is not is asked for afterwards.
+fn all_inside(file: &[u8]) -> bool
+    requires { ⌜ length (now file) ≡ 4 + 8 * class-count (now file) ⌝ }
+    ensures { λ r. ⌜ (r ≡ true → first (each (pair-condition (now (file .entry))) (class-count (now (file .entry)))) ≡ Passed) ⌝ }
+{
+    let n = at16(file, 0);
+    let mut found = false;
+    let mut class: u16 = 0;
+    while class < n {
+        found = or(outside(pair_at(file, class)), found);
+        class += 1;
+    }
+    !found
+}
+
 // What a price file is answered: 37, 38.
 pub fn file_fault(file: &[u8]) -> Verdict
     ensures { λ r. ⌜ r ≡ first (file-conditions (now (file .entry))) ⌝ }
@@ -191,6 +217,9 @@ pub fn file_fault(file: &[u8]) -> Verdict
             number: 37,
             place: 0,
         });
+    }
+    if all_inside(file) {
+        return Verdict::Passed;
     }
     pairs_fault(file)
 }

@@ -117,7 +117,7 @@ module _ (t : Tariff) (priced : Priced t) (log : List ℕ) (a : Accepted t log) 
 
   pub opened-fresh : opened t log ≡ fresh (t .table) (setup-of log)
   unfolding opened started started-by
-  opened-fresh = ap (λ (v : Verdict). started-by v t (setup-of log) .cache) starts
+  opened-fresh = ap (λ (v : Verdict). started-by v (t .table) (setup-of log) .cache) starts
 
   -- the state after its first k requests
   abbrev state : ℕ → Cache

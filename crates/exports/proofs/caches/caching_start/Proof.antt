@@ -9,12 +9,11 @@ given-requires c κs = search needs
 start-requires : tie.Need-start-requires
 start-requires c κs = search needs
 
-start-answer-requires : tie.Need-start-answer-requires
-start-answer-requires c κs = search needs
+of-start-requires : tie.Need-of-start-requires
+of-start-requires c κs = search needs
 
 returns : tie.Need-returns
-returns c = rw (c .start-answer .ensures, c .before .start .ensures, c .before .before .given .ensures)
+returns c = cc
 
 pub caching-start-spec : {M : Type 1} → statement M
-caching-start-spec =
-    tie.close (tie.spec given-requires start-requires start-answer-requires returns)
+caching-start-spec = tie.close (tie.spec given-requires start-requires of-start-requires returns)

@@ -9,12 +9,12 @@ given-requires c κs = search needs
 start-with-requires : tie.Need-start-with-requires
 start-with-requires c κs = search needs
 
-start-answer-requires : tie.Need-start-answer-requires
-start-answer-requires c κs = search needs
+of-start-requires : tie.Need-of-start-requires
+of-start-requires c κs = search needs
 
 returns : tie.Need-returns
-returns c = rw (c .start-answer .ensures, c .before .start-with .ensures, c .before .before .given .ensures)
+returns c = cc
 
 pub caching-start-with-spec : {M : Type 1} → statement M
 caching-start-with-spec =
-    tie.close (tie.spec given-requires start-with-requires start-answer-requires returns)
+    tie.close (tie.spec given-requires start-with-requires of-start-requires returns)

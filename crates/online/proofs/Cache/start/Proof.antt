@@ -1,5 +1,6 @@
 -- `online::Cache::start` meets its contract. Assumes nothing.
 use Rattle.prices.specs.FileLaws.{built-in-given}
+use Rattle.online.specs.StartLaws.{start-made}
 use borrow.Author.Needs.{needs}
 use Rattle.online.proofs.Cache.start.Statement.{statement}
 use Rattle.online.proofs.Cache.start.Tie as tie
@@ -7,15 +8,34 @@ use Rattle.online.proofs.Cache.start.Tie as tie
 built-in-requires : tie.Need-built-in-requires
 built-in-requires c κs = search needs
 
-slice-aggregate-start-by : tie.Need-slice-aggregate-start-by
-slice-aggregate-start-by c = search needs
+slice-aggregate-setup-fault : tie.Need-slice-aggregate-setup-fault
+slice-aggregate-setup-fault c = search needs
 
-start-by-requires : tie.Need-start-by-requires
-start-by-requires c κs = search needs
+setup-fault-requires : tie.Need-setup-fault-requires
+setup-fault-requires c κs = search needs
+
+slice-aggregate-of-class : tie.Need-slice-aggregate-of-class
+slice-aggregate-of-class c = search needs
+
+of-class-requires : tie.Need-of-class-requires
+of-class-requires c κs = search needs
+
+given-requires : tie.Need-given-requires
+given-requires c κs = search needs
 
 returns : tie.Need-returns
-returns c = rw (built-in-given _ (c .before .before .built-in .ensures)) (c .start-by .ensures)
+returns c =
+    rw (built-in-given _ (c .before .before .before .before .before .built-in .ensures))
+    (start-made _ _ _ _ _ (c .before .before .before .setup-fault .ensures) (c .given .ensures _ (c .before .of-class .ensures)))
 
 pub start-spec : {M : Type 1} → statement M
 start-spec =
-    tie.close (tie.spec built-in-requires slice-aggregate-start-by start-by-requires returns)
+    tie.close
+    (tie.spec
+    built-in-requires
+    slice-aggregate-setup-fault
+    setup-fault-requires
+    slice-aggregate-of-class
+    of-class-requires
+    given-requires
+    returns)
