@@ -7,8 +7,7 @@ use lib.ListN.{length}
 use Rattle.base.specs.declared.Verdict.{Verdict}
 use Rattle.base.specs.declared.Verdict.the-variants.{Passed, Refused}
 use Rattle.prices.specs.declared.Prices.{Prices}
-use Rattle.prices.specs.Prices.{prices-of}
-use Rattle.prices.specs.PriceLaws.{In-range}
+use Rattle.prices.specs.Prices.{prices-of, In-range}
 use Rattle.log.specs.declared.Setup.{Setup}
 use Rattle.log.specs.Ranges.{Allowed}
 use Rattle.model.specs.Requests.{Requests}

@@ -14,8 +14,7 @@ use Rattle.base.specs.Lists.{build, build-at}
 use Rattle.base.specs.Sets.{has}
 use Rattle.base.specs.declared.Verdict.the-variants.{Passed}
 use Rattle.prices.specs.declared.Prices.{Prices}
-use Rattle.prices.specs.Prices.{prices-of, window}
-use Rattle.prices.specs.PriceLaws.{In-range}
+use Rattle.prices.specs.Prices.{prices-of, window, In-range}
 use Rattle.log.specs.declared.Setup.{Setup}
 use Rattle.log.specs.Ranges.{Allowed}
 use Rattle.model.specs.Requests.{Requests, latest, Rising, Within}

@@ -1,21 +1,23 @@
 -- Price files (02's Req 05): which load, that their refusals come before all others, and demand 3 with Req 02's bound for every tariff in one statement.
 use mathlib.Core.List.{List}
 use mathlib.Core.Logic.{_↔_}
-use mathlib.Core.Path.{_≡_}
+use mathlib.Core.Path.{_≡_, refl}
 use Prim.Native.Nat.{ℕ, _≤_, _<_}
-use lib.ListN.{length}
+use lib.ListN.{length, take}
 use Rattle.base.specs.declared.Refusal.{Refusal}
 use Rattle.base.specs.declared.Verdict.the-variants.{Passed, Refused}
-use Rattle.prices.specs.Prices.{prices-of}
-use Rattle.prices.specs.PriceFile.{table-in}
-use Rattle.prices.specs.PriceLaws.{In-range, given-priced}
-use Rattle.prices.specs.FileLaws.{built-in-bytes, built-in-file, Loads, loads-exactly}
+use Rattle.prices.specs.Prices.{prices-of, In-range}
+use Rattle.prices.specs.PriceLaws.{given-priced}
+use Rattle.prices.specs.PriceFile.{built-in-bytes, Loads}
+use Rattle.prices.specs.FileLaws.{built-in-file, loads-exactly}
 use Rattle.prices.specs.Tariff.{Tariff, built-in, price-file, Given}
 use Rattle.log.specs.declared.Setup.{Setup}
-use Rattle.log.specs.Fields.{class-of, request-count}
+use Rattle.log.specs.Fields.{request-count}
 use Rattle.log.specs.Conditions.{Accepted, verdict-of}
 use Rattle.log.specs.Contents.{Contents}
 use Rattle.log.specs.Answers.{read-verdict, write-verdict}
+use Rattle.model.specs.LogRequests.{prices-in}
+use Rattle.model.specs.LogRequestLaws.{log-priced}
 use Rattle.checker.specs.Answers.{check-verdict-of}
 use Rattle.planner.specs.Answers.{plan-verdict, least-verdict}
 use Rattle.online.specs.Answers.{start-verdict, started}
@@ -24,12 +26,8 @@ use Rattle.bounds.specs.Claim.{Claim}
 use Rattle.report.specs.Sheet.{sheet-verdict}
 use Rattle.report.specs.Output.{output, price-limit}
 use Rattle.report.specs.LongInput.{enough-prices}
-use Rattle.model.specs.LogRequests.{prices-in}
-use Rattle.model.specs.LogRequestLaws.{log-priced}
 use Rattle.guarantees.specs.Demand3.{Planned-best, planned-best, online-within-three}
 use Rattle.guarantees.specs.Closes.{Closed-within, closes-within}
-use lib.ListN.{take}
-use mathlib.Core.Path.{refl}
 
 -- THE FILES THAT LOAD: count 1 to 256, offset 4, length to the count, every price from 1 to 1,000,000
 pub file-loads : (file : List ℕ) → (price-file file .judged ≡ Passed) ↔ Loads file

@@ -9,8 +9,8 @@ use Rattle.log.specs.Conditions.{Accepted}
 use Rattle.log.specs.Contents.{Contents, decode, first-requests, cut}
 use Rattle.log.specs.AcceptedLaws.{accepted-judged, accepted-class, accepted-sound, before-is}
 use Rattle.log.specs.Cutting.{cut-decodes}
-use Rattle.prices.specs.Prices.{prices-of}
-use Rattle.prices.specs.PriceLaws.{In-range, Priced}
+use Rattle.prices.specs.Prices.{prices-of, In-range}
+use Rattle.prices.specs.PriceLaws.{Priced}
 use Rattle.prices.specs.Tariff.{Tariff}
 use Rattle.model.specs.Requests.{requests, Rising, Within}
 use Rattle.model.specs.LogRequests.{requests-in, prices-in}

@@ -10,7 +10,8 @@ use lib.Dec.{ltb, eqb}
 use borrow.Author.Tests.{leb-false, ltb-false, eqb-true, eqb-false, not-true, not-false, lt-leb, le-ltb, eq-eqb, ne-eqb}
 use Rattle.base.specs.Choice.{both, same-or-not, true-or-false, not-both}
 use Rattle.base.specs.ChoiceLaws.{either-false, neither-of}
-use Rattle.prices.specs.PriceLaws.{In-range, in-range}
+use Rattle.prices.specs.Prices.{In-range}
+use Rattle.prices.specs.PriceLaws.{in-range}
 use Rattle.online.specs.declared.Cache.{Cache}
 use Rattle.online.specs.ServerLaws.{some-server-none, some-server-each}
 use Rattle.online.specs.Rules.{window-of, copy-at, use-at}

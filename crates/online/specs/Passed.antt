@@ -9,8 +9,8 @@ use borrow.Author.Tests.{leb-false, ltb-false, eqb-false}
 use Rattle.base.specs.ChoiceLaws.{either-false}
 use Rattle.base.specs.RefusalLaws.{first-passed, otherwise-passed}
 use Rattle.base.specs.declared.Verdict.the-variants.{Passed}
-use Rattle.prices.specs.Prices.{prices-of}
-use Rattle.prices.specs.PriceLaws.{In-range, Priced}
+use Rattle.prices.specs.Prices.{prices-of, In-range}
+use Rattle.prices.specs.PriceLaws.{Priced}
 use Rattle.prices.specs.Tariff.{Tariff}
 use Rattle.log.specs.declared.Setup.{Setup}
 use Rattle.log.specs.Ranges.{Allowed}

@@ -2,7 +2,7 @@
 use native.Mathlib.Nat.{mul-le-mul}
 use native.Mathlib.Omega.{arith}
 use Prim.Native.Nat.{_≤_, _<_, _^_}
-use Rattle.prices.specs.PriceLaws.{In-range}
+use Rattle.prices.specs.Prices.{In-range}
 use Rattle.online.specs.declared.Cache.{Cache}
 use Rattle.online.specs.Rules.{running}
 

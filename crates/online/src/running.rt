@@ -1,7 +1,7 @@
 // The running cost (01: running bill).
 ghost use mathlib.Core.Path.{_≡_};
 ghost use Prim.Native.Nat.{_*_};
-ghost use Rattle.prices.specs.PriceLaws.{In-range};
+ghost use Rattle.prices.specs.Prices.{In-range};
 ghost use Rattle.online.specs.Rules.{running};
 ghost use Rattle.online.specs.Answers.{running-answer};
 use crate::Cache;

@@ -17,24 +17,11 @@ use Rattle.base.specs.RefusalLaws.{first-met, first-failed, first-passed, each-
 use Rattle.base.specs.declared.Verdict.{Verdict}
 use Rattle.base.specs.declared.Verdict.the-variants.{Passed, Refused}
 use Rattle.prices.specs.Prices.{priced, classes, outside}
-use Rattle.prices.specs.PriceFile.{most-classes, price-room, class-count, prices-offset, pair-at, table-in, form-condition, pair-condition, file-conditions}
+use Rattle.prices.specs.PriceFile.{most-classes, price-room, class-count, prices-offset, pair-at, table-in, form-condition, pair-condition, file-conditions, Loads, built-in-bytes}
 use Rattle.prices.specs.Tariff.{tariff, built-in, price-file}
-use Rattle.prices.specs.PriceLaws.{In-range, in-range, Priced, classes-ranged, file-priced}
+use Rattle.prices.specs.PriceLaws.{in-range, Priced, classes-ranged, file-priced}
 
--- the bytes of a price file that says the built-in table
-unfoldable pub built-in-bytes : List ℕ
-built-in-bytes = 8 ∷ 0 ∷ 4 ∷ 0
-    ∷ 1 ∷ 0 ∷ 0 ∷ 0 ∷ 10 ∷ 0 ∷ 0 ∷ 0
-    ∷ 1 ∷ 0 ∷ 0 ∷ 0 ∷ 25 ∷ 0 ∷ 0 ∷ 0
-    ∷ 2 ∷ 0 ∷ 0 ∷ 0 ∷ 25 ∷ 0 ∷ 0 ∷ 0
-    ∷ 3 ∷ 0 ∷ 0 ∷ 0 ∷ 30 ∷ 0 ∷ 0 ∷ 0
-    ∷ 3 ∷ 0 ∷ 0 ∷ 0 ∷ 100 ∷ 0 ∷ 0 ∷ 0
-    ∷ 5 ∷ 0 ∷ 0 ∷ 0 ∷ 88 ∷ 2 ∷ 0 ∷ 0
-    ∷ 7 ∷ 0 ∷ 0 ∷ 0 ∷ 5 ∷ 0 ∷ 0 ∷ 0
-    ∷ 1 ∷ 0 ∷ 0 ∷ 0 ∷ 64 ∷ 66 ∷ 15 ∷ 0
-    ∷ []
-
--- its table is the built-in one
+-- the table of the built-in bytes is the built-in one
 pub built-in-table : table-in built-in-bytes ≡ classes
 unfolding built-in-bytes table-in class-count pair-at classes build
 built-in-table = refl
@@ -94,14 +81,6 @@ long-refused file h = elim (true-or-false (form-condition file .holds)) [
   | inl e ↦ first-met (form-condition file) _ e
   | inr e ↦ absurd (omega (arith, form-length file e, count-most file e))
 ]
-
--- what a price file that loads has: its count, offset and length as the format says, and each class in range
-pub record Loads (file : List ℕ) : Type 0 where
-  pub count-least : 1 ≤ class-count file
-  pub count-most : class-count file ≤ most-classes
-  pub offset-is : prices-offset file ≡ 4
-  pub length-is : length file ≡ 4 + 8 * class-count file
-  pub ranged : (class : ℕ) → class < class-count file → In-range (pair-at file class)
 
 -- neither 37 nor 38 refuses it exactly if it has these
 pub loads-exactly : (file : List ℕ) → (first (file-conditions file) ≡ Passed) ↔ Loads file

@@ -1,8 +1,8 @@
 -- Prices in range, 1 to 1,000,000: what the test tells, and that each class of the built-in table and of every price file that loads is. Assumes nothing.
-use mathlib.Core.Bool.{Bool, false, not}
+use mathlib.Core.Bool.{false, not}
 use mathlib.Core.List.{List}
 use mathlib.Core.Logic.{_≢_, _↔_}
-use mathlib.Core.Path.{_≡_, refl, sym, ap, _∙_}
+use mathlib.Core.Path.{_≡_, refl}
 use native.Mathlib.Omega.{arith}
 use Prim.Native.Nat.{ℕ, suc, _≤_, _<_}
 use lib.Dec.{ltb, eqb}
@@ -11,25 +11,18 @@ use borrow.Author.Tests.{ltb-false, eqb-false, le-ltb, ne-eqb, not-true}
 use Rattle.base.specs.Choice.{either}
 use Rattle.base.specs.ChoiceLaws.{either-false, neither-of}
 use Rattle.base.specs.Refusals.{each}
-use Rattle.base.specs.RefusalLaws.{append-passed, first-passed, each-passed}
+use Rattle.base.specs.RefusalLaws.{first-passed, each-passed}
 use Rattle.base.specs.declared.Verdict.the-variants.{Passed}
 use Rattle.base.specs.Lists.{build-length, build-at, every, every-at}
 use Rattle.prices.specs.declared.Prices.{Prices}
-use Rattle.prices.specs.Prices.{priced, classes, prices-of, outside}
+use Rattle.prices.specs.Prices.{priced, classes, prices-of, outside, In-range}
 use Rattle.prices.specs.PriceFile.{class-count, pair-at, table-in, pair-condition, file-conditions}
-use Rattle.prices.specs.Tariff.{Tariff, tariff, built-in, price-file, Given, none, file}
+use Rattle.prices.specs.Tariff.{Tariff, price-file, Given, none, file}
 
 -- a number that is no class has no price
 pub no-class : (table : List Prices) (class : ℕ) → length table ≤ class → prices-of table class ≡ priced 0 0
 unfolding prices-of
 no-class table class h = List·getD-eq-default table (priced 0 0) h
-
--- both prices are from 1 to 1,000,000
-pub record In-range (p : Prices) : Type 0 where
-  pub hold-least : 1 ≤ p .hold
-  pub hold-most : p .hold ≤ 1000000
-  pub transfer-least : 1 ≤ p .transfer
-  pub transfer-most : p .transfer ≤ 1000000
 
 -- such a price, both ways
 range-of : (x : ℕ) → either (eqb x 0) (ltb 1000000 x) ≡ false → (1 ≤ x) × (x ≤ 1000000)

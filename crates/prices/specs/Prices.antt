@@ -1,7 +1,7 @@
 -- 01's 'Prices': the table of classes, the prices of a class, their range and their window. Assumes nothing.
 use mathlib.Core.Bool.{Bool}
 use mathlib.Core.List.{List, [], _∷_}
-use Prim.Native.Nat.{ℕ, _/_}
+use Prim.Native.Nat.{ℕ, _/_, _≤_}
 use lib.Dec.{ltb, eqb}
 use lib.ListN.{getD}
 use Rattle.base.specs.Choice.{either}
@@ -31,6 +31,13 @@ prices-of table class = getD table class (priced 0 0)
 -- a price is 0 or above 1,000,000
 unfoldable pub outside : Prices → Bool
 outside p = either (either (eqb (p .hold) 0) (ltb 1000000 (p .hold))) (either (eqb (p .transfer) 0) (ltb 1000000 (p .transfer)))
+
+-- both prices are from 1 to 1,000,000
+pub record In-range (p : Prices) : Type 0 where
+  pub hold-least : 1 ≤ p .hold
+  pub hold-most : p .hold ≤ 1000000
+  pub transfer-least : 1 ≤ p .transfer
+  pub transfer-most : p .transfer ≤ 1000000
 
 -- the transfer price divided by the hold price, rounded down; 0 where the hold price is 0
 unfoldable pub window : Prices → ℕ

@@ -11,8 +11,8 @@ use Rattle.base.specs.Refusals.{first}
 use Rattle.base.specs.Lists.{build}
 use Rattle.base.specs.declared.Verdict.{Verdict}
 use Rattle.base.specs.declared.Verdict.the-variants.{Passed}
-use Rattle.prices.specs.Prices.{prices-of}
-use Rattle.prices.specs.PriceLaws.{In-range, Priced}
+use Rattle.prices.specs.Prices.{prices-of, In-range}
+use Rattle.prices.specs.PriceLaws.{Priced}
 use Rattle.prices.specs.Tariff.{Tariff}
 use Rattle.log.specs.Fields.{class-of, setup-of, request-count, seconds-of, servers-of}
 use Rattle.log.specs.Conditions.{Accepted}

@@ -4,7 +4,7 @@ ghost use mathlib.Core.Path.{_≡_};
 ghost use Prim.Native.Nat.{_≤_, _<_};
 ghost use lib.ListN.{length, take};
 ghost use Rattle.io.specs.Counts.{Counts};
-ghost use Rattle.prices.specs.FileLaws.{built-in-bytes};
+ghost use Rattle.prices.specs.PriceFile.{built-in-bytes};
 ghost use Rattle.prices.specs.Tariff.{price-file};
 ghost use Rattle.report.specs.Sizes.{sheet-room};
 ghost use Rattle.report.specs.Output.{output, limit, price-limit};

@@ -7,7 +7,7 @@ use lib.ListN.{length, take, drop}
 use lib.Seq.{take-at, length-take-le}
 use Rattle.io.specs.Counts.{Counts}
 use Rattle.base.specs.Lists.{splice, splice-fits, splice-length}
-use Rattle.prices.specs.FileLaws.{built-in-bytes}
+use Rattle.prices.specs.PriceFile.{built-in-bytes}
 use Rattle.report.specs.Output.{price-limit}
 use borrow.Author.Needs.{needs}
 use Rattle.sheet.proofs.give_built_in.Statement.{statement}

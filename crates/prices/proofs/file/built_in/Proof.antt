@@ -1,6 +1,6 @@
 -- `prices::file::built_in` meets its contract. Assumes nothing.
 use mathlib.Core.Path.{refl}
-use Rattle.prices.specs.FileLaws.{built-in-bytes}
+use Rattle.prices.specs.PriceFile.{built-in-bytes}
 use Rattle.prices.proofs.file.built_in.Statement.{statement}
 use Rattle.prices.proofs.file.built_in.Tie as tie
 
