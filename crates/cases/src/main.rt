@@ -5,6 +5,7 @@ use libc::STDOUT_FILENO;
 use log::Header;
 use log::ReadOutcome;
 use log::Written;
+use prices::built_in;
 
 fn print(text: &[u8]) {
     io::write_all(STDOUT_FILENO, text);
@@ -51,13 +52,16 @@ fn show_part(name: &[u8], log: &[u8], n: usize) {
     }
 }
 
-fn write_case(name: &[u8], header: Header, seconds: &[u32], servers: &[u16], log: &mut [u8]) {
-    print(name);
-    let w = log::write(header, seconds, servers, log);
+fn print_written(w: Written) {
     match w {
         Written::Length(n) => print_taken(n),
         Written::Refused(r) => print_refusal(r),
     }
+}
+
+fn write_case(name: &[u8], header: Header, seconds: &[u32], servers: &[u16], log: &mut [u8]) {
+    print(name);
+    print_written(log::write(header, seconds, servers, log));
 }
 
 fn header(class: u8, server_count: u8, home: u8) -> Header {
@@ -218,9 +222,16 @@ fn room_cases() {
 }
 
 // What the writer is handed: class, server count, home, both seconds and both servers, the number of servers given, the room.
-const WRITES: [[u32; 9]; 17] = [
+const WRITES: [[u32; 9]; 24] = [
+    [6, 2, 0, 5, 8, 1, 0, 2, 60],
     [7, 2, 0, 5, 8, 1, 0, 2, 60],
     [8, 2, 0, 5, 8, 1, 0, 2, 60],
+    [7, 0, 0, 5, 8, 1, 0, 2, 60],
+    [7, 65, 0, 5, 8, 1, 0, 2, 60],
+    [7, 2, 2, 5, 8, 1, 0, 2, 60],
+    [7, 2, 0, 5, 8, 1, 0, 1, 60],
+    [7, 2, 0, 0, 8, 1, 0, 2, 60],
+    [7, 2, 0, 5, 8, 1, 0, 2, 51],
     [0, 0, 0, 5, 8, 1, 0, 2, 60],
     [0, 64, 0, 5, 8, 1, 63, 2, 60],
     [0, 65, 0, 5, 8, 1, 0, 2, 60],
@@ -272,9 +283,19 @@ fn write_row(w: [u32; 9]) {
 }
 
 fn write_cases() {
-    for i in 0..17 {
+    for i in 0..24 {
         write_row(WRITES[i]);
     }
+}
+
+// Class 7 of a price file that says the built-in table; and the log, which is then one of class 7 of the built-in table.
+fn loaded_case() {
+    let mut log = [9u8; 52];
+    let prices = built_in();
+    let w = log::write_with(&prices, header(7, 2, 0), &[5u32, 8], &[1u16, 0], &mut log);
+    print(b"class 7 by a price file:");
+    print_written(w);
+    show(b"its log without the file:", &log);
 }
 
 // 1, 2, .., one each second.
@@ -312,6 +333,7 @@ fn main() {
     length_cases(sample(8));
     room_cases();
     write_cases();
+    loaded_case();
     long_case(0);
     long_case(2048);
     long_case(2049);

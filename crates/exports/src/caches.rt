@@ -1,6 +1,6 @@
 // The online cache: a state goes in and comes back by value.
 ghost use mathlib.Core.Path.{_≡_};
-ghost use Rattle.prices.specs.Tariff.{built-in, price-file};
+ghost use Rattle.prices.specs.Offer.{built-in-offer, file-offer};
 ghost use Rattle.online.specs.Answers.{started, scanned, running-answer, closed-answer};
 ghost use Rattle.exports.specs.Answers.{given, of-start, of-scan, running-of, of-running, of-close, start-answer, scan-answer, close-answer};
 use crate::Answer;
@@ -50,7 +50,7 @@ fn given(class: u8, server_count: u8, home: u8) -> Setup
 
 #[no_mangle]
 pub extern "C" fn caching_start(class: u8, server_count: u8, home: u8) -> CacheAnswer
-    ensures { λ r. ⌜ r ≡ start-answer (started built-in (given class «server_count» home)) ⌝ }
+    ensures { λ r. ⌜ r ≡ start-answer (started built-in-offer (given class «server_count» home)) ⌝ }
 {
     let started = Cache::start(given(class, server_count, home));
     let cache = started.cache;
@@ -68,7 +68,7 @@ pub extern "C" fn caching_start_with(
     server_count: u8,
     home: u8,
 ) -> CacheAnswer
-    ensures { λ r. ⌜ r ≡ start-answer (started (price-file (now (prices .entry))) (given class «server_count» home)) ⌝ }
+    ensures { λ r. ⌜ r ≡ start-answer (started (file-offer (now (prices .entry))) (given class «server_count» home)) ⌝ }
 {
     let started = Cache::start_with(prices, given(class, server_count, home));
     let cache = started.cache;

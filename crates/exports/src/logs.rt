@@ -2,6 +2,7 @@
 ghost use mathlib.Core.Path.{_≡_};
 ghost use lib.ListN.{length};
 ghost use Rattle.prices.specs.Tariff.{built-in, price-file};
+ghost use Rattle.prices.specs.Offer.{built-in-offer, file-offer};
 ghost use Rattle.log.specs.Sum.{sum-of};
 ghost use Rattle.log.specs.Contents.{contents};
 ghost use Rattle.log.specs.Answers.{read-verdict, decoded, seconds-left, servers-left, write-verdict, written, log-left};
@@ -89,8 +90,8 @@ pub extern "C" fn caching_write(
     servers: &[u16],
     log: &mut [u8],
 ) -> Answer
-    ensures { λ r. ⌜ r ≡ of-write (written (write-verdict built-in (contents header (now (seconds .entry)) (now (servers .entry))) (length (now (log .entry)))) (contents header (now (seconds .entry)) (now (servers .entry)))) ⌝ }
-    ensures { λ _. ⌜ now (log .exit) ≡ log-left built-in (contents header (now (seconds .entry)) (now (servers .entry))) (now (log .entry)) ⌝ }
+    ensures { λ r. ⌜ r ≡ of-write (written (write-verdict built-in-offer (contents header (now (seconds .entry)) (now (servers .entry))) (length (now (log .entry)))) (contents header (now (seconds .entry)) (now (servers .entry)))) ⌝ }
+    ensures { λ _. ⌜ now (log .exit) ≡ log-left built-in-offer (contents header (now (seconds .entry)) (now (servers .entry))) (now (log .entry)) ⌝ }
 {
     of_write(log::write(header, seconds, servers, log))
 }
@@ -104,8 +105,8 @@ pub extern "C" fn caching_write_with(
     servers: &[u16],
     log: &mut [u8],
 ) -> Answer
-    ensures { λ r. ⌜ r ≡ of-write (written (write-verdict (price-file (now (prices .entry))) (contents header (now (seconds .entry)) (now (servers .entry))) (length (now (log .entry)))) (contents header (now (seconds .entry)) (now (servers .entry)))) ⌝ }
-    ensures { λ _. ⌜ now (log .exit) ≡ log-left (price-file (now (prices .entry))) (contents header (now (seconds .entry)) (now (servers .entry))) (now (log .entry)) ⌝ }
+    ensures { λ r. ⌜ r ≡ of-write (written (write-verdict (file-offer (now (prices .entry))) (contents header (now (seconds .entry)) (now (servers .entry))) (length (now (log .entry)))) (contents header (now (seconds .entry)) (now (servers .entry)))) ⌝ }
+    ensures { λ _. ⌜ now (log .exit) ≡ log-left (file-offer (now (prices .entry))) (contents header (now (seconds .entry)) (now (servers .entry))) (now (log .entry)) ⌝ }
 {
     of_write(log::write_with(prices, header, seconds, servers, log))
 }

@@ -17,9 +17,10 @@ use Rattle.base.specs.Lent.{lent}
 use Rattle.base.specs.Lists.{build-length}
 use Rattle.prices.specs.PriceFile.{file-conditions}
 use Rattle.prices.specs.Tariff.{Tariff, price-file, Given, none, file, conditions-of}
+use Rattle.prices.specs.Offer.{Offer, offer-of}
 use Rattle.log.specs.declared.Setup.{Setup}
 use Rattle.log.specs.Fields.{request-count, seconds-of, servers-of, length-for}
-use Rattle.log.specs.Conditions.{setup-conditions, log-conditions}
+use Rattle.log.specs.Conditions.{setup-conditions, offered-conditions, log-conditions}
 use Rattle.log.specs.Contents.{Contents, contents-conditions, encode}
 use Rattle.log.specs.Answers.{read-verdict, write-verdict}
 use Rattle.log.specs.AnswerLaws.{read-passed, write-passed}
@@ -34,7 +35,7 @@ use Rattle.text.specs.RefusalText.{refusal-text}
 use Rattle.online.specs.declared.Cache.{Cache}
 use Rattle.online.specs.Conditions.{scan-conditions, running-conditions, close-conditions}
 use Rattle.online.specs.Rules.{zeros}
-use Rattle.online.specs.Answers.{start-verdict, scan-verdict, running-verdict, close-verdict, started-by, started, scanned-by, scanned, closed-by, closed-answer}
+use Rattle.online.specs.Answers.{start-verdict, log-start-verdict, scan-verdict, running-verdict, close-verdict, started-by, started, started-for-log, scanned-by, scanned, closed-by, closed-answer}
 
 -- a verdict is that of a list of conditions
 pub record Decided (cs : List Condition) (v : Verdict) : Type 0 where
@@ -49,6 +50,12 @@ decided-after : (t : Tariff) (g : Given t) (cs : List Condition) → Decided (co
 unfolding conditions-of
 decided-after t none cs = decided cs
 decided-after t (file bytes) cs = rw (← first-append (file-conditions bytes) cs) (decided (file-conditions bytes ++ cs))
+
+-- also of what is sold
+offer-decided : (t : Tariff) (g : Given t) (cs : List Condition) → Decided (conditions-of g ++ cs) (otherwise (offer-of g .tariff .judged) (first cs))
+unfolding offer-of
+offer-decided t none cs = decided-after t none cs
+offer-decided t (file bytes) cs = decided-after t (file bytes) cs
 
 -- a price file
 pub file-decided : (bytes : List ℕ) → Decided (file-conditions bytes) (price-file bytes .judged)
@@ -88,13 +95,13 @@ read-left t log seconds servers = (
 
 -- writing a log
 pub write-decided : (t : Tariff) (g : Given t) (c : Contents) (log : ℕ)
-    → Decided (conditions-of g ++ (contents-conditions (t .table) c ++ (short (length-for (length (c .seconds))) log ∷ []))) (write-verdict t c log)
+    → Decided (conditions-of g ++ (contents-conditions (offer-of g) c ++ (short (length-for (length (c .seconds))) log ∷ []))) (write-verdict (offer-of g) c log)
 unfolding write-verdict
-write-decided t g c log = decided-after t g _
+write-decided t g c log = offer-decided t g _
 
-pub write-left : (t : Tariff) (c : Contents) (log : List ℕ) → Sixteen c → Left (write-verdict t c (length log)) (encode c) log
-write-left t c log h =
-    left (write-verdict t c (length log)) (encode c) log (λ e. omega (arith, encode-length c h, write-passed t c (length log) e .2))
+pub write-left : (o : Offer) (c : Contents) (log : List ℕ) → Sixteen c → Left (write-verdict o c (length log)) (encode c) log
+write-left o c log h =
+    left (write-verdict o c (length log)) (encode c) log (λ e. omega (arith, encode-length c h, write-passed o c (length log) e .2))
 
 -- checking a schedule
 pub check-decided : (t : Tariff) (g : Given t) (log rows : List ℕ) → Decided (conditions-of g ++ check-conditions (t .table) log rows) (check-verdict-of t log rows)
@@ -151,9 +158,13 @@ least-left t log costs =
     room e = first-passed outputs .0 (append-passed (log-conditions (t .table) log) outputs .0 (otherwise-passed (t .judged) _ e .1) .1)
 
 -- the online cache's calls; they are lent nothing
-pub start-decided : (t : Tariff) (g : Given t) (s : Setup) → Decided (conditions-of g ++ setup-conditions (t .table) s) (start-verdict t s)
+pub start-decided : (t : Tariff) (g : Given t) (s : Setup) → Decided (conditions-of g ++ offered-conditions (offer-of g) s) (start-verdict (offer-of g) s)
 unfolding start-verdict
-start-decided t g s = decided-after t g _
+start-decided t g s = offer-decided t g _
+
+pub log-start-decided : (t : Tariff) (g : Given t) (s : Setup) → Decided (conditions-of g ++ setup-conditions (t .table) s) (log-start-verdict t s)
+unfolding log-start-verdict
+log-start-decided t g s = decided-after t g _
 
 pub scan-decided : (c : Cache) (second server : ℕ) → Decided (scan-conditions c second server) (scan-verdict c second server)
 unfolding scan-verdict
@@ -204,6 +215,10 @@ pub close-unchanged : (c : Cache) (r : Refusal) → close-verdict c ≡ Refused 
 unfolding closed-answer closed-by
 close-unchanged c r e = ap (λ (v : Verdict). closed-by v c .cache) e
 
-pub start-zeros : (t : Tariff) (s : Setup) (r : Refusal) → start-verdict t s ≡ Refused r → started t s .cache ≡ zeros
+pub start-zeros : (o : Offer) (s : Setup) (r : Refusal) → start-verdict o s ≡ Refused r → started o s .cache ≡ zeros
 unfolding started started-by
-start-zeros t s r e = ap (λ (v : Verdict). started-by v (t .table) s .cache) e
+start-zeros o s r e = ap (λ (v : Verdict). started-by v (o .tariff .table) s .cache) e
+
+pub log-start-zeros : (t : Tariff) (s : Setup) (r : Refusal) → log-start-verdict t s ≡ Refused r → started-for-log t s .cache ≡ zeros
+unfolding started-for-log started-by
+log-start-zeros t s r e = ap (λ (v : Verdict). started-by v (t .table) s .cache) e

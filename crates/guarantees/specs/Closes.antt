@@ -7,21 +7,20 @@ use native.Mathlib.Omega.{arith}
 use Rattle.base.specs.declared.Verdict.{Verdict}
 use Rattle.base.specs.declared.Verdict.the-variants.{Passed}
 use Rattle.prices.specs.Prices.{prices-of, window}
-use Rattle.prices.specs.PriceLaws.{given-priced}
 use Rattle.prices.specs.Tariff.{Tariff, Given}
 use Rattle.log.specs.declared.Setup.{Setup}
 use Rattle.online.specs.declared.Cache.{Cache}
 use Rattle.online.specs.declared.Closed.{Closed}
 use Rattle.online.specs.declared.CloseOutcome.the-variants as close′
 use Rattle.online.specs.Rules.{window-of, copy-at, use-at, running, remaining, closing, shut}
-use Rattle.online.specs.Answers.{start-verdict, close-verdict, started-by, started, closed-by, closed-answer}
-use Rattle.online.specs.Passed.{start-passed, close-passed}
+use Rattle.online.specs.Answers.{close-verdict, closed-by, closed-answer}
+use Rattle.online.specs.Passed.{close-passed}
 use Rattle.online.specs.ClosingLaws.{remaining-at, remaining-most, closing-more, closing-most}
 use Rattle.bounds.specs.Calls.{Call, verdict, run, Taken-close}
 use Rattle.bounds.specs.CloseLaws.{close-once}
 use Rattle.bounds.specs.Claim.{Claim, prices, final}
 use Rattle.bounds.specs.ClaimLaws.{closing-fresh}
-use Rattle.guarantees.specs.Demand3.{online-within-three}
+use Rattle.guarantees.specs.Demand3.{Ready, ready-fresh, online-within-three}
 
 -- a close that is not refused, in any state
 pub record Closing (c : Cache) : Type 0 where
@@ -50,40 +49,39 @@ close-answers c e =
     }
 
 -- a close that is not refused, after a list of calls
-pub record Closed-within (t : Tariff) (s : Setup) (calls : List Call) : Type 0 where
+pub record Closed-within (t : Tariff) (s : Setup) (c : Cache) (calls : List Call) : Type 0 where
   -- demand 3's claim of the calls before it: its least cost is that of the requests taken
-  pub claimed : Claim (t .table) s (started t s .cache) calls
+  pub claimed : Claim (t .table) s c calls
   -- it answers the closing cost, which is at least the running cost, and at most three times the least cost and one transfer price
-  pub answers : closed-answer (final (t .table) s (started t s .cache) calls) .outcome ≡ close′.Cost (closing (final (t .table) s (started t s .cache) calls))
-  pub no-less : running (final (t .table) s (started t s .cache) calls) ≤ closing (final (t .table) s (started t s .cache) calls)
-  pub no-more : closing (final (t .table) s (started t s .cache) calls) ≤ 3 * claimed .least + prices (t .table) s (started t s .cache) calls .transfer
+  pub answers : closed-answer (final (t .table) s c calls) .outcome ≡ close′.Cost (closing (final (t .table) s c calls))
+  pub no-less : running (final (t .table) s c calls) ≤ closing (final (t .table) s c calls)
+  pub no-more : closing (final (t .table) s c calls) ≤ 3 * claimed .least + prices (t .table) s c calls .transfer
 
 -- THE CLOSE AFTER A LIST OF CALLS
-pub close-within : (t : Tariff) → Given t → (s : Setup) → start-verdict t s ≡ Passed → (calls : List Call) → close-verdict (run (started t s .cache) calls) ≡ Passed
-    → Closed-within t s calls
-close-within t g s e calls f =
-    let claim = online-within-three t g s e calls in
+pub close-within : (t : Tariff) (g : Given t) (s : Setup) (c : Cache) → Ready t g s c → (calls : List Call) → close-verdict (run c calls) ≡ Passed
+    → Closed-within t s c calls
+close-within t g s c r calls f =
+    let claim = online-within-three t g s c r calls in
     record {
       claimed = claim;
-      answers = ap (λ (a : Closed). a .outcome) (close-answers (run (started t s .cache) calls) f .answers);
+      answers = ap (λ (a : Closed). a .outcome) (close-answers (run c calls) f .answers);
       no-less = claim .closing-no-less;
       no-more = claim .closing-no-more;
     }
 
 -- EVERY CLOSE IN A LIST OF CALLS that is not refused is so bounded by the requests taken before it
-pub closes-within : (t : Tariff) → Given t → (s : Setup) → start-verdict t s ≡ Passed → (calls : List Call) (x : Taken-close (started t s .cache) calls)
-    → Closed-within t s (x .before)
+pub closes-within : (t : Tariff) (g : Given t) (s : Setup) (c : Cache) → Ready t g s c → (calls : List Call) (x : Taken-close c calls)
+    → Closed-within t s c (x .before)
 unfolding verdict
-closes-within t g s e calls x = close-within t g s e (x .before) (x .passed)
+closes-within t g s c r calls x = close-within t g s c r (x .before) (x .passed)
 
 -- and there is at most one, from any state
 pub closes-once : (c : Cache) (calls : List Call) (x y : Taken-close c calls) → x .before ≡ y .before
 closes-once = close-once
 
 -- A CLOSE AT ONCE answers the hold price for one window
-pub close-at-once : (t : Tariff) → Given t → (s : Setup) → start-verdict t s ≡ Passed
-    → closing (started t s .cache) ≡ prices-of (t .table) (s .«class») .hold * window (prices-of (t .table) (s .«class»))
-unfolding started started-by
-close-at-once t g s e =
-    let (a, range) = start-passed t (given-priced t g) s e in
+pub close-at-once : (t : Tariff) (g : Given t) (s : Setup) (c : Cache) → Ready t g s c
+    → closing c ≡ prices-of (t .table) (s .«class») .hold * window (prices-of (t .table) (s .«class»))
+close-at-once t g s c r =
+    let (a, range, e) = ready-fresh t g s c r in
     rw e (closing-fresh (t .table) s a range)

@@ -11,11 +11,14 @@ use Rattle.base.specs.Refusals.{first, otherwise, short}
 use Rattle.base.specs.RefusalLaws.{first-append, otherwise-passed}
 use Rattle.base.specs.Lists.{build-at}
 use Rattle.prices.specs.Tariff.{Tariff, Given}
-use Rattle.prices.specs.PriceLaws.{given-priced}
+use Rattle.prices.specs.Prices.{prices-of, In-range}
+use Rattle.prices.specs.Offer.{offer-of}
+use Rattle.prices.specs.PriceLaws.{given-priced, offer-tariff}
 use Rattle.log.specs.declared.Setup.{Setup}
 use Rattle.log.specs.Fields.{request-count, server-count}
 use Rattle.log.specs.Conditions.{Accepted, verdict-of, log-conditions}
 use Rattle.log.specs.AcceptedLaws.{accepted-sound}
+use Rattle.log.specs.Ranges.{Allowed}
 use Rattle.log.specs.Contents.{decode, first-requests, cut}
 use Rattle.log.specs.Cutting.{cut-accepted, cut-decodes, cut-count}
 use Rattle.model.specs.LogRequests.{requests-in, prices-in}
@@ -29,8 +32,9 @@ use Rattle.checker.specs.Answers.{check-answer}
 use Rattle.planner.specs.declared.Planned.the-variants as planner
 use Rattle.planner.specs.Answers.{planned-rows, rows-of-plan, plan-verdict, planned, least-costs}
 use Rattle.online.specs.declared.Cache.{Cache}
-use Rattle.online.specs.Answers.{start-verdict, scan-verdict, close-verdict, started-by, started, scanned, closed-answer}
-use Rattle.online.specs.Passed.{start-passed}
+use Rattle.online.specs.Rules.{fresh}
+use Rattle.online.specs.Answers.{start-verdict, log-start-verdict, scan-verdict, close-verdict, started-by, started, started-for-log, scanned, closed-answer}
+use Rattle.online.specs.Passed.{log-start-passed, start-passed}
 use Rattle.bounds.specs.Calls.{Call, scan, close, verdict, after}
 use Rattle.bounds.specs.Claim.{Claim}
 use Rattle.bounds.specs.ClaimLaws.{claim}
@@ -143,9 +147,25 @@ pub close-call : (c : Cache) → (after c close ≡ closed-answer c .cache) × (
 unfolding after verdict
 close-call c = (refl, refl)
 
+-- the state of a start that is not refused: one of what is sold, or one for a log that there is, whose class may have ended
+pub data Ready (t : Tariff) (g : Given t) (s : Setup) : Cache → Type 0 where
+  sold : start-verdict (offer-of g) s ≡ Passed → Ready t g s (started (offer-of g) s .cache)
+  for-log : log-start-verdict t s ≡ Passed → Ready t g s (started-for-log t s .cache)
+
+-- either way it is fresh, with prices in range
+pub ready-fresh : (t : Tariff) (g : Given t) (s : Setup) (c : Cache) → Ready t g s c
+    → Allowed s × In-range (prices-of (t .table) (s .«class»)) × (c ≡ fresh (t .table) s)
+unfolding started started-for-log started-by
+ready-fresh t g s c (for-log e) =
+    let (a, range) = log-start-passed t (given-priced t g) s e in
+    (a, range, ap (λ (v : Verdict). started-by v (t .table) s .cache) e)
+ready-fresh t g s c (sold e) =
+    let p : log-start-verdict t s ≡ Passed = rw (← offer-tariff t g) (start-passed (offer-of g) s .0 e .0) in
+    let (a, range) = log-start-passed t (given-priced t g) s p in
+    (a, range, ap (λ (v : Verdict). started-by v (offer-of g .tariff .table) s .cache) e ∙ ap (λ (x : Tariff). fresh (x .table) s) (offer-tariff t g))
+
 -- THE ONLINE HALF: for every start that is not refused, with a price file or without, and every list of scan and close calls, refused ones included
-pub online-within-three : (t : Tariff) → Given t → (s : Setup) → start-verdict t s ≡ Passed → (calls : List Call) → Claim (t .table) s (started t s .cache) calls
-unfolding started started-by
-online-within-three t g s e calls =
-    let (a, range) = start-passed t (given-priced t g) s e in
+pub online-within-three : (t : Tariff) (g : Given t) (s : Setup) (c : Cache) → Ready t g s c → (calls : List Call) → Claim (t .table) s c calls
+online-within-three t g s c r calls =
+    let (a, range, e) = ready-fresh t g s c r in
     rw e (claim (t .table) s a range calls)

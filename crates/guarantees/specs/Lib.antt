@@ -12,3 +12,4 @@ pub mod Demand3
 pub mod Closes
 pub mod SheetColumns
 pub mod PriceFiles
+pub mod EndedClass

@@ -11,6 +11,7 @@ use Rattle.prices.specs.PriceLaws.{given-priced}
 use Rattle.prices.specs.PriceFile.{built-in-bytes, Loads}
 use Rattle.prices.specs.FileLaws.{built-in-file, loads-exactly}
 use Rattle.prices.specs.Tariff.{Tariff, built-in, price-file, Given}
+use Rattle.prices.specs.Offer.{file-offer}
 use Rattle.log.specs.declared.Setup.{Setup}
 use Rattle.log.specs.Fields.{request-count}
 use Rattle.log.specs.Conditions.{Accepted, verdict-of}
@@ -20,13 +21,14 @@ use Rattle.model.specs.LogRequests.{prices-in}
 use Rattle.model.specs.LogRequestLaws.{log-priced}
 use Rattle.checker.specs.Answers.{check-verdict-of}
 use Rattle.planner.specs.Answers.{plan-verdict, least-verdict}
-use Rattle.online.specs.Answers.{start-verdict, started}
+use Rattle.online.specs.declared.Cache.{Cache}
+use Rattle.online.specs.Answers.{start-verdict, log-start-verdict}
 use Rattle.bounds.specs.Calls.{Call, Taken-close}
 use Rattle.bounds.specs.Claim.{Claim}
 use Rattle.report.specs.Sheet.{sheet-verdict}
 use Rattle.report.specs.Output.{output, price-limit}
 use Rattle.report.specs.LongInput.{enough-prices}
-use Rattle.guarantees.specs.Demand3.{Planned-best, planned-best, online-within-three}
+use Rattle.guarantees.specs.Demand3.{Planned-best, planned-best, Ready, online-within-three}
 use Rattle.guarantees.specs.Closes.{Closed-within, closes-within}
 
 -- THE FILES THAT LOAD: count 1 to 256, offset 4, length to the count, every price from 1 to 1,000,000
@@ -40,7 +42,7 @@ class-in-range = given-priced
 pub log-in-range : (t : Tariff) → Given t → (log : List ℕ) → Accepted t log → In-range (prices-in t log)
 log-in-range t g = log-priced t (given-priced t g)
 
--- the eight built-in classes as a file are the built-in tariff, so every answer and every sheet is the same
+-- the eight built-in classes as a file are the built-in tariff, so logs are read, checked, planned and printed with it as without
 pub built-in-as-file : price-file built-in-bytes ≡ built-in
 built-in-as-file = built-in-file built-in-bytes refl
 
@@ -48,16 +50,17 @@ built-in-as-file = built-in-file built-in-bytes refl
 pub record First-of-all (file : List ℕ) (r : Refusal) : Type 0 where
   pub log : (log : List ℕ) → verdict-of (price-file file) log ≡ Refused r
   pub read : (log : List ℕ) (seconds servers : ℕ) → read-verdict (price-file file) log seconds servers ≡ Refused r
-  pub write : (c : Contents) (log : ℕ) → write-verdict (price-file file) c log ≡ Refused r
+  pub write : (c : Contents) (log : ℕ) → write-verdict (file-offer file) c log ≡ Refused r
   pub check : (log rows : List ℕ) → check-verdict-of (price-file file) log rows ≡ Refused r
   pub plan : (log : List ℕ) (marks rows : ℕ) → plan-verdict (price-file file) log marks rows ≡ Refused r
   pub least : (log : List ℕ) (costs : ℕ) → least-verdict (price-file file) log costs ≡ Refused r
-  pub start : (s : Setup) → start-verdict (price-file file) s ≡ Refused r
+  pub start : (s : Setup) → start-verdict (file-offer file) s ≡ Refused r
+  pub log-start : (s : Setup) → log-start-verdict (price-file file) s ≡ Refused r
   pub sheet : (log : List ℕ) (text : ℕ) → sheet-verdict (price-file file) log text ≡ Refused r
 
 -- THE FILE COMES FIRST
 pub file-first : (file : List ℕ) (r : Refusal) → price-file file .judged ≡ Refused r → First-of-all file r
-unfolding verdict-of read-verdict write-verdict check-verdict-of plan-verdict least-verdict start-verdict sheet-verdict
+unfolding verdict-of read-verdict write-verdict check-verdict-of plan-verdict least-verdict start-verdict log-start-verdict sheet-verdict
 file-first file r e =
     record {
       log = λ log. rw e;
@@ -67,6 +70,7 @@ file-first file r e =
       plan = λ log marks rows. rw e;
       least = λ log costs. rw e;
       start = λ s. rw e;
+      log-start = λ s. rw e;
       sheet = λ log text. rw e;
     }
 
@@ -75,14 +79,14 @@ pub first-bytes-enough : (file log : List ℕ) → output (price-file (take pric
 first-bytes-enough = enough-prices
 
 -- demand 3 by one tariff
-pub record Demand-3 (t : Tariff) : Type 0 where
+pub record Demand-3 (t : Tariff) (g : Given t) : Type 0 where
   -- every log accepted with it, cut to its first requests
   pub planner : (log : List ℕ) (k : ℕ) → Accepted t log → k ≤ request-count log → Planned-best t log k
-  -- every start that is not refused, and every list of calls after it
-  pub online : (s : Setup) → start-verdict t s ≡ Passed → (calls : List Call) → Claim (t .table) s (started t s .cache) calls
+  -- every start that is not refused, of what is sold or for a log that there is, and every list of calls after it
+  pub online : (s : Setup) (c : Cache) → Ready t g s c → (calls : List Call) → Claim (t .table) s c calls
   -- every close among them that is not refused
-  pub closes : (s : Setup) → start-verdict t s ≡ Passed → (calls : List Call) (x : Taken-close (started t s .cache) calls) → Closed-within t s (x .before)
+  pub closes : (s : Setup) (c : Cache) → Ready t g s c → (calls : List Call) (x : Taken-close c calls) → Closed-within t s c (x .before)
 
 -- DEMAND 3 FOR EVERY TABLE: with any price file, and without one
-pub demand-3 : (t : Tariff) → Given t → Demand-3 t
+pub demand-3 : (t : Tariff) (g : Given t) → Demand-3 t g
 demand-3 t g = record { planner = planned-best t; online = online-within-three t g; closes = closes-within t g }

@@ -1,4 +1,4 @@
--- The round trips of the log: what is written is read back, what was read is written as it was, and a cut log says the first requests.
+-- The round trips of the log: what is written is read back, what was read is written as it was, if its class is sold, and a cut log says the first requests.
 use mathlib.Core.List.{List}
 use mathlib.Core.Logic.{_↔_}
 use mathlib.Core.Path.{_≡_}
@@ -6,8 +6,8 @@ use Prim.Native.Nat.{ℕ, _≤_, _<_}
 use lib.ListN.{length}
 use Rattle.base.specs.Bytes.{Are-bytes}
 use Rattle.base.specs.declared.Verdict.the-variants.{Passed}
-use Rattle.prices.specs.declared.Prices.{Prices}
 use Rattle.prices.specs.Tariff.{Tariff}
+use Rattle.prices.specs.Offer.{Offer, Sold}
 use Rattle.log.specs.Fields.{request-count}
 use Rattle.log.specs.Conditions.{Accepted}
 use Rattle.log.specs.Contents.{Contents, decode, encode, first-requests, cut}
@@ -16,8 +16,8 @@ use Rattle.log.specs.AcceptedLaws.{writable-proper}
 use Rattle.log.specs.RoundTrip.{decode-encode, encode-accepted, encode-bytes, decode-proper, encode-decode}
 use Rattle.log.specs.Cutting.{cut-accepted, cut-decodes, cut-bytes, cut-all}
 
--- by any table, the writer takes exactly the headers and lists of requests that are in range and of one of its classes
-pub taken-in-range : (table : List Prices) (c : Contents) → Writable table c ↔ ((c .header .«class» < length table) × Proper c)
+-- by any offer, the writer takes exactly the headers and lists of requests that are in range and of a class that is sold
+pub taken-in-range : (o : Offer) (c : Contents) → Writable o c ↔ (Sold o (c .header .«class») × Proper c)
 taken-in-range = writable-proper
 
 -- the log that says what is in range is accepted, where its price file is not refused and has its class
@@ -36,7 +36,7 @@ written-reads-back = decode-encode
 pub read-in-range : (t : Tariff) (log : List ℕ) → Accepted t log → Proper (decode log)
 read-in-range = decode-proper
 
--- and written again it gives the same bytes
+-- its bytes are those that say this
 pub read-writes-back : (t : Tariff) (log : List ℕ) → Accepted t log → Are-bytes log → encode (decode log) ≡ log
 read-writes-back = encode-decode
 

@@ -25,7 +25,7 @@ use Rattle.planner.specs.Answers.{planned-rows, rows-of-plan, plan-verdict, pla
 use Rattle.online.specs.declared.Scanned.{Scanned}
 use Rattle.online.specs.declared.CloseOutcome.the-variants as close′
 use Rattle.online.specs.Rules.{running}
-use Rattle.online.specs.Answers.{start-verdict, close-verdict, scanned, closed-answer}
+use Rattle.online.specs.Answers.{log-start-verdict, close-verdict, scanned, closed-answer}
 use Rattle.bounds.specs.Calls.{Call, run, verdicts, requests-of}
 use Rattle.bounds.specs.Progress.{begun, taken}
 use Rattle.bounds.specs.Claim.{Claim, served, served-count}
@@ -37,7 +37,7 @@ use Rattle.report.specs.LiveCalls.{scans-passed, request, scans-taken, requests
 use Rattle.report.specs.Replies.{outcome-letter, outcome-cost, turn}
 use Rattle.report.specs.Sheet.{columns-of}
 use Rattle.report.specs.Text.{entry-of}
-use Rattle.guarantees.specs.Demand3.{planned-best, online-within-three}
+use Rattle.guarantees.specs.Demand3.{planned-best, for-log, online-within-three}
 use Rattle.guarantees.specs.Closes.{close-within, close-at-once}
 
 -- what line k of a log's sheet says, from 1
@@ -80,7 +80,7 @@ answer-of t log k = scanned (run (opened t log) (calls-of log (k - 1))) (line-of
 
 pub record Live-columns (t : Tariff) (log : List ℕ) (k : ℕ) : Type 0 where
   -- neither the start nor any of the first k calls is refused
-  pub ready : start-verdict t (setup-of log) ≡ Passed
+  pub ready : log-start-verdict t (setup-of log) ≡ Passed
   pub passes : verdicts (opened t log) (calls-of log k) ≡ replicate k Passed
   -- the line has the mark and the running cost that call k answers, which is the cost of the state after all k
   pub mark-is : line-of t log k .live ≡ outcome-letter (answer-of t log k .outcome)
@@ -101,7 +101,7 @@ module _ (t : Tariff) (g : Given t) (log : List ℕ) (k : ℕ) (a : Accepted t l
 
   claim-of : Claim (t .table) (setup-of log) (opened t log) (calls-of log k)
   unfolding opened
-  claim-of = online-within-three t g (setup-of log) (starts t (given-priced t g) log a) (calls-of log k)
+  claim-of = online-within-three t g (setup-of log) (opened t log) (for-log (starts t (given-priced t g) log a)) (calls-of log k)
 
   list-of : taken (server-count log) begun (calls-of log k) ≡ build k (request (seconds-of log) (servers-of log))
   list-of = scans-taken (server-count log) begun (seconds-of log) (servers-of log) k (sym (claim-of .refused) ∙ passed)
@@ -181,7 +181,7 @@ unfolding closing-cost state-after scans build run opened prices-in
 close-line t g log a =
     let n = request-count log in
     let passes : close-verdict (run (opened t log) (all-calls log)) ≡ Passed = closes t (given-priced t g) log a in
-    let w = close-within t g (setup-of log) (starts t (given-priced t g) log a) (all-calls log) passes in
+    let w = close-within t g (setup-of log) (opened t log) (for-log (starts t (given-priced t g) log a)) (all-calls log) passes in
     let least : w .claimed .least ≡ getD (least-costs t log) n 0 =
     least-of t g log n a (omega arith) (w .claimed) ∙ sym (planned-best t log n a (omega arith) .least-is) in
     record {
@@ -189,5 +189,5 @@ close-line t g log a =
       answers = w .answers;
       no-less = w .no-less;
       no-more = omega (arith, w .no-more, least);
-      empty = λ e. rw e (close-at-once t g (setup-of log) (starts t (given-priced t g) log a));
+      empty = λ e. rw e (close-at-once t g (setup-of log) (opened t log) (for-log (starts t (given-priced t g) log a)));
     }

@@ -11,6 +11,7 @@ use Rattle.base.specs.declared.Verdict.{Verdict}
 use Rattle.base.specs.declared.Verdict.the-variants.{Passed, Refused}
 use Rattle.prices.specs.Prices.{classes, prices-of}
 use Rattle.prices.specs.Tariff.{built-in}
+use Rattle.prices.specs.Offer.{built-in-offer}
 use Rattle.log.specs.declared.Setup.{Setup}
 use Rattle.log.specs.Conditions.{verdict-of}
 use Rattle.log.specs.Contents.{contents, encode}
@@ -118,10 +119,10 @@ log-of g =
 unfoldable pub right : Week → Bool
 right (planned g least costs closing marks live rows) =
     both (same (least-so-far g) least)
-    (both (same (costs-from (started built-in (g .setup) .cache) (g .seconds) (g .servers)) costs)
-    (both (eqb (close-after (started built-in (g .setup) .cache) (g .seconds) (g .servers)) closing)
+    (both (same (costs-from (started built-in-offer (g .setup) .cache) (g .seconds) (g .servers)) costs)
+    (both (eqb (close-after (started built-in-offer (g .setup) .cache) (g .seconds) (g .servers)) closing)
     (both (same (plan-letters g) marks)
-    (both (same (letters-from (started built-in (g .setup) .cache) (g .seconds) (g .servers)) live)
+    (both (same (letters-from (started built-in-offer (g .setup) .cache) (g .seconds) (g .servers)) live)
     (same (plan-numbers g) rows)))))
 right (checked g rows number place c) = same (answer-numbers (check-answer built-in (log-of g) rows)) (number ∷ place ∷ c ∷ [])
 right (logged g number place) = same (as-numbers (verdict-of built-in (log-of g))) (number ∷ place ∷ [])

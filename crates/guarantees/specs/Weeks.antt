@@ -10,7 +10,7 @@ use Rattle.base.specs.Nearest.{distance, none-nearer, nearest}
 use Rattle.prices.specs.Prices.{classes, prices-of, outside, window}
 use Rattle.log.specs.Fields.{version, class-of, server-count, home-of, request-count, requests-offset, id-offset, total-length, written-sum, length-for, seconds-of, servers-of}
 use Rattle.log.specs.Sum.{sum-from, sum-of}
-use Rattle.log.specs.Conditions.{setup-conditions, header-conditions, before, request-conditions, log-conditions, verdict-of}
+use Rattle.log.specs.Conditions.{setup-conditions, offered-conditions, header-conditions, before, request-conditions, log-conditions, verdict-of}
 use Rattle.log.specs.Contents.{head, request-bytes, requests-bytes, body, encode}
 use Rattle.model.specs.Sums.{sum, total}
 use Rattle.model.specs.Requests.{requests, latest, previous}
@@ -26,7 +26,7 @@ use Rattle.planner.specs.Answers.{letter, marks-of, planned-rows, least-costs}
 use Rattle.online.specs.Servers.{across, set-of, some-server}
 use Rattle.online.specs.Rules.{window-of, copy-at, use-at, fresh, lasts, kept, uses, stands as stands-after, next-use, seconds, accept, running, remaining, closing}
 use Rattle.online.specs.Conditions.{any-of, server-broken, broken, scan-conditions, close-conditions}
-use Rattle.online.specs.Answers.{start-verdict, started-by, started, scan-verdict, scanned-by, scanned, mark-outcome, close-verdict, closed-by, closed-answer}
+use Rattle.online.specs.Answers.{start-verdict, log-start-verdict, started-by, started, started-for-log, scan-verdict, scanned-by, scanned, mark-outcome, close-verdict, closed-by, closed-answer}
 use Rattle.bounds.specs.Calls.{after as after-call, run}
 use Rattle.text.specs.Decimal.{digits, decimal}
 use Rattle.text.specs.Lines.{ascii, line-end, line}
@@ -91,7 +91,7 @@ own-weeks =
 
 -- every line of the table holds
 pub weeks-right : all-right (weeks ++ own-weeks) ≡ true
-unfolding weeks own-weeks all-right right same as-numbers answer-numbers requests-in prices-in check-conditions check-verdict-of checked-by check-answer requests-given letter live-letter least-so-far plan-letters plan-numbers costs-from close-after letters-from close-cost log-of build first each has put lowest distance none-nearer nearest classes prices-of outside window version class-of server-count home-of request-count requests-offset id-offset total-length written-sum length-for seconds-of servers-of sum-from sum-of setup-conditions header-conditions before request-conditions log-conditions verdict-of head request-bytes requests-bytes body encode sum total requests latest previous length-of is-transfer cost-of reach arrive through reached rounds standing stands numbers flat row-of row-at rows-upto rows-of fits earlier follows keeps some? legal gap begin after spans any covered holds own cost begins-run run-end hold-rows all-holds transfers source rows-from rows put-mark markings first-least least-of plan plan-cost plan-rows row-count misfits misplaced row-conditions backed copy-condition serve-condition schedule-conditions check-cost across set-of some-server window-of copy-at use-at fresh lasts kept uses stands-after next-use seconds accept running remaining closing any-of server-broken broken scan-conditions close-conditions start-verdict started-by started scan-verdict scanned-by scanned mark-outcome close-verdict closed-by closed-answer marks-of planned-rows least-costs after-call run digits decimal ascii line-end line list-word refusal-text heading entry-line entry-lines figure-line sheet-text entry-of scans state-after live-mark live-cost opened live-marks running-costs closing-cost columns-of sheet-of output-by output
+unfolding weeks own-weeks all-right right same as-numbers answer-numbers requests-in prices-in check-conditions check-verdict-of checked-by check-answer requests-given letter live-letter least-so-far plan-letters plan-numbers costs-from close-after letters-from close-cost log-of build first each has put lowest distance none-nearer nearest classes prices-of outside window version class-of server-count home-of request-count requests-offset id-offset total-length written-sum length-for seconds-of servers-of sum-from sum-of setup-conditions offered-conditions header-conditions before request-conditions log-conditions verdict-of head request-bytes requests-bytes body encode sum total requests latest previous length-of is-transfer cost-of reach arrive through reached rounds standing stands numbers flat row-of row-at rows-upto rows-of fits earlier follows keeps some? legal gap begin after spans any covered holds own cost begins-run run-end hold-rows all-holds transfers source rows-from rows put-mark markings first-least least-of plan plan-cost plan-rows row-count misfits misplaced row-conditions backed copy-condition serve-condition schedule-conditions check-cost across set-of some-server window-of copy-at use-at fresh lasts kept uses stands-after next-use seconds accept running remaining closing any-of server-broken broken scan-conditions close-conditions start-verdict log-start-verdict started-by started started-for-log scan-verdict scanned-by scanned mark-outcome close-verdict closed-by closed-answer marks-of planned-rows least-costs after-call run digits decimal ascii line-end line list-word refusal-text heading entry-line entry-lines figure-line sheet-text entry-of scans state-after live-mark live-cost opened live-marks running-costs closing-cost columns-of sheet-of output-by output
 weeks-right = refl
 
 -- the two windows that 01's 'Prices' names: of class 4 and of class 6

@@ -18,9 +18,10 @@ use Rattle.base.specs.Bytes.{le16, le32}
 use Rattle.base.specs.Lists.{build-length, build-at}
 use Rattle.prices.specs.declared.Prices.{Prices}
 use Rattle.prices.specs.Tariff.{Tariff}
+use Rattle.prices.specs.Offer.{Offer, Sold}
 use Rattle.log.specs.declared.Setup.{Setup}
 use Rattle.log.specs.Fields.{class-of, server-count, request-count, requests-offset, id-offset, total-length, id-of, length-for, seconds-of, servers-of}
-use Rattle.log.specs.Conditions.{setup-conditions, form-conditions, header-conditions, before, request-conditions, log-conditions, verdict-of, Accepted}
+use Rattle.log.specs.Conditions.{servers-conditions, setup-conditions, offered-conditions, form-conditions, header-conditions, before, request-conditions, log-conditions, verdict-of, Accepted}
 use Rattle.log.specs.Contents.{Contents, contents-conditions}
 use Rattle.log.specs.Ranges.{Allowed, In-order, Sound, Proper, Writable}
 
@@ -59,11 +60,17 @@ allowed : (s : Setup) → either (eqb (s .«server_count») 0) (ltb 64 (s .«ser
     → leb (s .«server_count») (s .home) ≡ false → Allowed s
 allowed s q r = let range = range-false (s .«server_count») 64 q in omega (arith, ltb-false, leb-false)
 
+passed-servers : (s : Setup) (cs : List Condition) → Allowed s → first cs ≡ Passed → first (servers-conditions s ++ cs) ≡ Passed
+passed-servers s cs f e =
+    passed-cons _ _ (false-range _ _ (f .servers-least) (f .servers-most)) (passed-cons _ _ (lt-leb _ _ (f .home-below)) e)
+
 passed-setup : (table : List Prices) (s : Setup) (cs : List Condition) → s .«class» < length table → Allowed s → first cs ≡ Passed → first (setup-conditions table s ++ cs) ≡ Passed
 unfolding setup-conditions
-passed-setup table s cs l f e =
-    passed-cons _ _ (lt-leb _ _ l)
-    (passed-cons _ _ (false-range _ _ (f .servers-least) (f .servers-most)) (passed-cons _ _ (lt-leb _ _ (f .home-below)) e))
+passed-setup table s cs l f e = passed-cons _ _ (lt-leb _ _ l) (passed-servers s cs f e)
+
+passed-offered : (o : Offer) (s : Setup) (cs : List Condition) → Sold o (s .«class») → Allowed s → first cs ≡ Passed → first (offered-conditions o s ++ cs) ≡ Passed
+unfolding offered-conditions
+passed-offered o s cs l f e = passed-cons _ _ (lt-leb _ _ (l .listed)) (passed-cons _ _ (l .unended) (passed-servers s cs f e))
 
 -- no condition on a setup holds exactly if its class is one of the table and the rest is allowed
 pub setup-allowed : (table : List Prices) (s : Setup) → (first (setup-conditions table s) ≡ Passed) ↔ ((s .«class» < length table) × Allowed s)
@@ -71,6 +78,14 @@ unfolding setup-conditions
 setup-allowed table s = (
   λ e. let f = first-passed (setup-conditions table s) .0 e in (leb-false _ _ (f 0), allowed s (f 1) (f 2)),
   λ (l, a). passed-setup table s [] l a passed-nil,
+)
+
+-- nor on one that is offered, if its class is sold too
+pub offered-allowed : (o : Offer) (s : Setup) → (first (offered-conditions o s) ≡ Passed) ↔ (Sold o (s .«class») × Allowed s)
+unfolding offered-conditions
+offered-allowed o s = (
+  λ e. let f = first-passed (offered-conditions o s) .0 e in (record { listed = leb-false _ _ (f 0); unended = f 1 }, allowed s (f 2) (f 3)),
+  λ (l, a). passed-offered o s [] l a passed-nil,
 )
 
 -- the first m requests
@@ -156,27 +171,27 @@ sound-accepted t s j l f = rw j (
 
 -- ---- the contents
 
--- the writer refuses all contents but proper ones of a class of the table
-pub writable-proper : (table : List Prices) (c : Contents) → Writable table c ↔ ((c .header .«class» < length table) × Proper c)
-unfolding contents-conditions setup-conditions
-writable-proper table c = (to, from)
+-- the writer refuses all contents but proper ones of a class that is sold
+pub writable-proper : (o : Offer) (c : Contents) → Writable o c ↔ (Sold o (c .header .«class») × Proper c)
+unfolding contents-conditions offered-conditions
+writable-proper o c = (to, from)
   where
-    to : Writable table c → (c .header .«class» < length table) × Proper c
+    to : Writable o c → Sold o (c .header .«class») × Proper c
     to w =
-        let f = first-passed (contents-conditions table c) .0 w in
-        let (few, as-many) = either-false _ _ (f 3) in (
-          leb-false _ _ (f 0),
+        let f = first-passed (contents-conditions o c) .0 w in
+        let (few, as-many) = either-false _ _ (f 4) in (
+          record { listed = leb-false _ _ (f 0); unended = f 1 },
           record {
-            setup = allowed _ (f 1) (f 2);
+            setup = allowed _ (f 2) (f 3);
             requests-most = ltb-false _ _ few;
             as-many = sym (differ-false _ _ as-many);
-            in-order = in-order-of _ _ _ _ (first-passed _ .1 (λ i. f (suc (suc (suc (suc i))))));
+            in-order = in-order-of _ _ _ _ (first-passed _ .1 (λ i. f (suc (suc (suc (suc (suc i)))))));
           },
         )
 
-    from : (c .header .«class» < length table) × Proper c → Writable table c
+    from : Sold o (c .header .«class») × Proper c → Writable o c
     from (l, f) =
-        passed-setup table _ _ l (f .setup)
+        passed-offered o _ _ l (f .setup)
         (passed-cons _ _ (neither-of (le-ltb _ _ (f .requests-most)) (same-false _ _ (sym (f .as-many))))
         (passed-in-order _ _ _ _ (f .in-order)))
 

@@ -1,5 +1,6 @@
 -- What the answers of reader and writer mean, of the log and of lent outputs.
-use mathlib.Core.List.{List, [], _∷_}
+use mathlib.Core.Bool.{Bool}
+use mathlib.Core.List.{List, [], _∷_, _++_}
 use mathlib.Core.Path.{_≡_, refl, sym, ap, _∙_}
 use Prim.Native.Nat.{ℕ, _+_, _*_, _≤_, _<_}
 use native.Mathlib.Omega.{arith}
@@ -11,11 +12,12 @@ use Rattle.base.specs.declared.Verdict.{Verdict}
 use Rattle.base.specs.declared.Verdict.the-variants.{Passed, Refused}
 use Rattle.prices.specs.declared.Prices.{Prices}
 use Rattle.prices.specs.Tariff.{Tariff, tariff}
+use Rattle.prices.specs.Offer.{Offer, offer, Sold}
 use Rattle.log.specs.declared.Decoded.{Decoded}
 use Rattle.log.specs.declared.ReadOutcome.the-variants as read
 use Rattle.log.specs.Sizes.{most-requests}
 use Rattle.log.specs.Fields.{request-count, length-for, header-of}
-use Rattle.log.specs.Conditions.{log-conditions, verdict-of, Accepted}
+use Rattle.log.specs.Conditions.{offered-conditions, log-conditions, verdict-of, Accepted}
 use Rattle.log.specs.Contents.{Contents, contents-conditions}
 use Rattle.log.specs.Answers.{read-verdict, decoded, write-verdict}
 use Rattle.log.specs.AcceptedLaws.{accepted-sound, writable-proper}
@@ -32,11 +34,17 @@ read-parts v table s seconds servers =
     ∙ otherwise-assoc v (first (log-conditions table s)) (first room)
     ∙ sym (from-otherwise (otherwise v (first (log-conditions table s))) room)
 
-pub write-parts : (v : Verdict) (table : List Prices) (c : Contents) (log : ℕ)
-    → write-verdict (tariff v table) c log ≡ otherwise (otherwise v (first (contents-conditions table c))) (first (short (length-for (length (c .seconds))) log ∷ []))
+pub write-parts : (o : Offer) (c : Contents) (log : ℕ)
+    → write-verdict o c log ≡ otherwise (otherwise (o .tariff .judged) (first (contents-conditions o c))) (first (short (length-for (length (c .seconds))) log ∷ []))
 unfolding write-verdict
-write-parts v table c log =
-    ap (otherwise v) (first-append (contents-conditions table c) _) ∙ otherwise-assoc v (first (contents-conditions table c)) _
+write-parts o c log =
+    ap (otherwise (o .tariff .judged)) (first-append (contents-conditions o c) _) ∙ otherwise-assoc (o .tariff .judged) (first (contents-conditions o c)) _
+
+-- of what is offered the writer asks only whether the one class has ended
+pub write-ended : (ended : Bool) (o : Offer) (c : Contents) (log : ℕ) → ended ≡ o .ended (c .header .«class»)
+    → write-verdict (offer (o .tariff) (λ class. ended)) c log ≡ write-verdict o c log
+unfolding write-verdict contents-conditions offered-conditions
+write-ended ended o c log e = rw e
 
 -- a log that is read is accepted, and both lists are long enough
 pub read-passed : (t : Tariff) (s : List ℕ) (seconds servers : ℕ) → read-verdict t s seconds servers ≡ Passed
@@ -87,26 +95,28 @@ unfolding decoded
 decoded-refused Passed log d r e f = absurd (let z : _≡_ {A = ℕ} 0 1 = cc in omega arith)
 decoded-refused (Refused r′) log d r e f = cc
 
--- contents that are written are proper and of a class of the table, and the log is long enough
-pub write-passed : (t : Tariff) (c : Contents) (log : ℕ) → write-verdict t c log ≡ Passed
-    → (c .header .«class» < length (t .table)) × Proper c × (length-for (length (c .seconds)) ≤ log)
+-- contents that are written are proper and of a class that is sold, and the log is long enough
+pub write-passed : (o : Offer) (c : Contents) (log : ℕ) → write-verdict o c log ≡ Passed
+    → Sold o (c .header .«class») × Proper c × (length-for (length (c .seconds)) ≤ log)
 unfolding write-verdict
-write-passed t c log e =
-    let parts = append-passed (contents-conditions (t .table) c) _ .0 (otherwise-passed (t .judged) _ e .1) in
+write-passed o c log e =
+    let parts = append-passed (contents-conditions o c) _ .0 (otherwise-passed (o .tariff .judged) _ e .1) in
     let room = first-passed (short (length-for (length (c .seconds))) log ∷ []) .0 (parts .1) in
-    let (l, f) = writable-proper (t .table) c .0 (parts .0) in
+    let (l, f) = writable-proper o c .0 (parts .0) in
     (l, f, ltb-false log (length-for (length (c .seconds))) (room 0))
 
--- proper contents are written into a log that is long enough, if the price file is not refused
-pub write-passes : (t : Tariff) (c : Contents) (log : ℕ) → t .judged ≡ Passed → c .header .«class» < length (t .table) → Proper c → length-for (length (c .seconds)) ≤ log
-    → write-verdict t c log ≡ Passed
+-- proper contents of a class that is sold are written into a log that is long enough, if the price file is not refused
+pub write-passes : (o : Offer) (c : Contents) (log : ℕ) → o .tariff .judged ≡ Passed → Sold o (c .header .«class») → Proper c → length-for (length (c .seconds)) ≤ log
+    → write-verdict o c log ≡ Passed
 unfolding write-verdict first
-write-passes t c log j k f l = rw j (append-passed (contents-conditions (t .table) c) _ .1 (writable-proper (t .table) c .1 (k, f), rw (le-ltb log _ l)))
+write-passes o c log j k f l =
+    ap (λ (v : Verdict). otherwise v (first (contents-conditions o c ++ (short (length-for (length (c .seconds))) log ∷ [])))) j
+    ∙ append-passed (contents-conditions o c) _ .1 (writable-proper o c .1 (k, f), rw (le-ltb log _ l))
 
 -- so both lists have one length of at most as many as a log can have, and the log has room
-pub write-room : (t : Tariff) (c : Contents) (log : ℕ) → write-verdict t c log ≡ Passed
+pub write-room : (o : Offer) (c : Contents) (log : ℕ) → write-verdict o c log ≡ Passed
     → (length (c .seconds) ≡ length (c .servers)) × (length (c .seconds) ≤ most-requests) × (40 + 6 * length (c .seconds) ≤ log)
 unfolding length-for
-write-room t c log e =
-    let (l, f, room) = write-passed t c log e in
+write-room o c log e =
+    let (l, f, room) = write-passed o c log e in
     (sym (f .as-many), f .requests-most, room)

@@ -7,6 +7,7 @@ use Rattle.base.specs.Lent.{lent}
 use Rattle.base.specs.declared.Verdict.{Verdict}
 use Rattle.base.specs.declared.Verdict.the-variants.{Passed, Refused}
 use Rattle.prices.specs.Tariff.{Tariff}
+use Rattle.prices.specs.Offer.{Offer}
 use Rattle.log.specs.declared.Header.{Header}
 use Rattle.log.specs.declared.ReadOutcome.the-variants as read
 use Rattle.log.specs.declared.Decoded.{Decoded}
@@ -38,8 +39,8 @@ abbrev pub servers-left : Tariff → List ℕ → List ℕ → List ℕ → List
 servers-left t log seconds servers = lent (read-verdict t log (length seconds) (length servers)) (servers-of log) servers
 
 -- a writer's conditions: the price file's, those on what is to be written, then 31 for the log, given its length
-unfoldable pub write-verdict : Tariff → Contents → ℕ → Verdict
-write-verdict t c log = otherwise (t .judged) (first (contents-conditions (t .table) c ++ (short (length-for (length (c .seconds))) log ∷ [])))
+unfoldable pub write-verdict : Offer → Contents → ℕ → Verdict
+write-verdict o c log = otherwise (o .tariff .judged) (first (contents-conditions o c ++ (short (length-for (length (c .seconds))) log ∷ [])))
 
 -- the writer's answer by its verdict: the log's length, or the refusal
 unfoldable pub written : Verdict → Contents → Written
@@ -47,5 +48,5 @@ written Passed c = write.Length (length-for (length (c .seconds)))
 written (Refused r) c = write.Refused r
 
 -- what the lent log holds at the end
-abbrev pub log-left : Tariff → Contents → List ℕ → List ℕ
-log-left t c log = lent (write-verdict t c (length log)) (encode c) log
+abbrev pub log-left : Offer → Contents → List ℕ → List ℕ
+log-left o c log = lent (write-verdict o c (length log)) (encode c) log

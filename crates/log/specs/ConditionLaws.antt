@@ -1,21 +1,35 @@
 -- The conditions on each request, and a log's verdict part by part, as the code comes by them.
-use mathlib.Core.Bool.{not}
+use mathlib.Core.Bool.{false, not}
 use mathlib.Core.List.{List, [], _∷_}
-use mathlib.Core.Path.{_≡_, ap, sym, _∙_}
+use mathlib.Core.Path.{_≡_, refl, ap, sym, _∙_}
 use Prim.Native.Nat.{ℕ, suc, _+_, _*_, _<_}
 use lib.Dec.{eqb}
 use lib.ListN.{getD}
-use Rattle.base.specs.Refusals.{Condition, refuse, first, from, each, otherwise}
+use Rattle.base.specs.Refusals.{Condition, refuse, first, or-else, from, each, otherwise}
 use Rattle.base.specs.RefusalLaws.{each-suc, first-append, from-otherwise, otherwise-assoc}
 use Rattle.base.specs.declared.Verdict.{Verdict}
-use Rattle.base.specs.declared.Verdict.the-variants.{Passed}
+use Rattle.base.specs.declared.Verdict.the-variants.{Passed, Refused}
 use Rattle.base.specs.Bytes.{le16, le32}
 use Rattle.base.specs.Lists.{build-at}
 use Rattle.prices.specs.declared.Prices.{Prices}
 use Rattle.prices.specs.Tariff.{tariff}
+use Rattle.prices.specs.Offer.{Offer}
+use Rattle.log.specs.declared.Setup.{Setup}
 use Rattle.log.specs.Fields.{server-count, request-count, seconds-of, servers-of, written-sum}
 use Rattle.log.specs.Sum.{sum-of}
-use Rattle.log.specs.Conditions.{form-conditions, header-conditions, before, request-check, request-conditions, log-conditions, verdict-of}
+use Rattle.log.specs.Conditions.{setup-conditions, offered-conditions, form-conditions, header-conditions, before, request-check, request-conditions, log-conditions, verdict-of}
+
+-- a test that fails adds nothing
+or-else-false : (v : Verdict) (number place : ℕ) → or-else v (refuse number place false) ≡ v
+unfolding or-else first
+or-else-false Passed number place = refl
+or-else-false (Refused r) number place = refl
+
+-- where the class has not ended, 3 to 5 are left
+pub offered-setup : (v : Verdict) (o : Offer) (s : Setup) → o .ended (s .«class») ≡ false
+    → from v (offered-conditions o s) ≡ from v (setup-conditions (o .tariff .table) s)
+unfolding offered-conditions setup-conditions from
+offered-setup v o s e = rw (e, or-else-false)
 
 -- the conditions on each request of a log
 abbrev pub log-requests : List ℕ → ℕ → List Condition

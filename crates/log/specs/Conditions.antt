@@ -1,4 +1,4 @@
--- The conditions 1 to 13 of 01's 'Refused because of the input', in its order. Assumes nothing.
+-- The conditions 1 to 13 of 01's 'Refused because of the input', in its order, and 02's 43 after 3. Assumes nothing.
 use mathlib.Core.Bool.{not}
 use mathlib.Core.List.{List, [], _∷_, _++_}
 use mathlib.Core.Path.{_≡_}
@@ -12,18 +12,30 @@ use Rattle.base.specs.declared.Verdict.the-variants.{Passed}
 use Rattle.base.specs.Bytes.{byte}
 use Rattle.prices.specs.declared.Prices.{Prices}
 use Rattle.prices.specs.Tariff.{Tariff}
+use Rattle.prices.specs.Offer.{Offer}
 use Rattle.log.specs.declared.Setup.{Setup}
 use Rattle.log.specs.Sizes.{most-requests}
 use Rattle.log.specs.Fields.{version, server-count, setup-of, request-count, requests-offset, id-offset, total-length, written-sum, length-for, seconds-of, servers-of}
 use Rattle.log.specs.Sum.{sum-of}
 
--- 3 asks for a class of the table, 4 for 1 to 64 servers, 5 for a home among them
-unfoldable pub setup-conditions : List Prices → Setup → List Condition
-setup-conditions table s =
-    refuse 3 0 (leb (length table) (s .«class»))
-    ∷ refuse 4 0 (either (eqb (s .«server_count») 0) (ltb 64 (s .«server_count»)))
+-- 3 asks for a class of the table
+abbrev pub class-condition : List Prices → Setup → Condition
+class-condition table s = refuse 3 0 (leb (length table) (s .«class»))
+
+-- 4 asks for 1 to 64 servers, 5 for a home among them
+abbrev pub servers-conditions : Setup → List Condition
+servers-conditions s =
+    refuse 4 0 (either (eqb (s .«server_count») 0) (ltb 64 (s .«server_count»)))
     ∷ refuse 5 0 (leb (s .«server_count») (s .home))
     ∷ []
+
+-- of a log that there is: 3 to 5
+unfoldable pub setup-conditions : List Prices → Setup → List Condition
+setup-conditions table s = class-condition table s ∷ servers-conditions s
+
+-- of what is to be written or started: 43, a class that is no longer sold, right after 3
+unfoldable pub offered-conditions : Offer → Setup → List Condition
+offered-conditions o s = class-condition (o .tariff .table) s ∷ refuse 43 0 (o .ended (s .«class»)) ∷ servers-conditions s
 
 -- 1 under 40 bytes; 2 version not 1; 3 to 5; 6 byte 5 not zero; 7 request count above 2,048; 8 an offset or the total not as the
 -- format says; 9 file length not the total

@@ -7,13 +7,13 @@ use lib.ListN.{getD, length, take}
 use Rattle.base.specs.Choice.{either}
 use Rattle.base.specs.Refusals.{Condition, refuse, each}
 use Rattle.base.specs.Bytes.{bytes}
-use Rattle.prices.specs.declared.Prices.{Prices}
+use Rattle.prices.specs.Offer.{Offer}
 use Rattle.log.specs.declared.Setup.{Setup}
 use Rattle.log.specs.declared.Header.{Header}
 use Rattle.log.specs.Sizes.{most-requests}
 use Rattle.log.specs.Fields.{header-of, seconds-of, servers-of, length-for}
 use Rattle.log.specs.Sum.{sum-from}
-use Rattle.log.specs.Conditions.{setup-conditions, request-conditions}
+use Rattle.log.specs.Conditions.{offered-conditions, request-conditions}
 
 -- a header, and the seconds and servers of its requests
 pub record Contents : Type 0 where
@@ -57,10 +57,10 @@ encode c =
 abbrev pub setup-in : Header → Setup
 setup-in h = record { «class» = h .«class»; «server_count» = h .«server_count»; home = h .home }
 
--- what the writer refuses: 3 to 5, 7 above 2,048 requests or lists of unequal length, and 11 to 13 request by request
-unfoldable pub contents-conditions : List Prices → Contents → List Condition
-contents-conditions table c =
-    setup-conditions table (setup-in (c .header))
+-- what the writer refuses: 3, 43, 4, 5, then 7 above 2,048 requests or lists of unequal length, and 11 to 13 request by request
+unfoldable pub contents-conditions : Offer → Contents → List Condition
+contents-conditions o c =
+    offered-conditions o (setup-in (c .header))
     ++ (refuse 7 0 (either (ltb most-requests (length (c .seconds))) (not (eqb (length (c .seconds)) (length (c .servers)))))
     ∷ each (request-conditions (c .header .«server_count») (c .seconds) (c .servers)) (length (c .seconds)))
 

@@ -12,23 +12,23 @@ use Rattle.base.specs.Refusals.{Condition, refuse, first, each, or-else, from, 
 use Rattle.base.specs.RefusalLaws.{first-append, from-append, from-otherwise, otherwise-assoc}
 use Rattle.base.specs.declared.Verdict.{Verdict}
 use Rattle.base.specs.declared.Verdict.the-variants.{Passed, Refused}
-use Rattle.prices.specs.declared.Prices.{Prices}
+use Rattle.prices.specs.Offer.{Offer}
 use Rattle.log.specs.Sizes.{most-requests}
-use Rattle.log.specs.Conditions.{setup-conditions, request-conditions}
+use Rattle.log.specs.Conditions.{offered-conditions, request-conditions}
 use Rattle.log.specs.Contents.{Contents, setup-in, contents-conditions}
 
 -- 7: more than 2,048 requests, or lists of unequal length
 abbrev pub lengths-condition : ℕ → ℕ → Condition
 lengths-condition n m = refuse 7 0 (either (ltb most-requests n) (not (eqb n m)))
 
-pub contents-parts : (v : Verdict) (table : List Prices) (c : Contents)
-    → otherwise v (first (contents-conditions table c))
+pub contents-parts : (v : Verdict) (o : Offer) (c : Contents)
+    → otherwise v (first (contents-conditions o c))
     ≡ otherwise
-    (or-else (from v (setup-conditions table (setup-in (c .header)))) (lengths-condition (length (c .seconds)) (length (c .servers))))
+    (or-else (from v (offered-conditions o (setup-in (c .header)))) (lengths-condition (length (c .seconds)) (length (c .servers))))
     (first (each (request-conditions (c .header .«server_count») (c .seconds) (c .servers)) (length (c .seconds))))
 unfolding contents-conditions from
-contents-parts judged table c =
-    let setup = setup-conditions table (setup-in (c .header)) in
+contents-parts judged o c =
+    let setup = offered-conditions o (setup-in (c .header)) in
     let seven = lengths-condition (length (c .seconds)) (length (c .servers)) ∷ [] in
     let rest = each (request-conditions (c .header .«server_count») (c .seconds) (c .servers)) (length (c .seconds)) in
     ap (otherwise judged) (ap first (sym (append-assoc setup seven rest)) ∙ first-append (setup ++ seven) rest)

@@ -6,7 +6,7 @@ use lib.ListN.{getD, length}
 use Rattle.base.specs.declared.Verdict.the-variants.{Passed}
 use Rattle.base.specs.Bytes.{byte}
 use Rattle.base.specs.Refusals.{first}
-use Rattle.prices.specs.declared.Prices.{Prices}
+use Rattle.prices.specs.Offer.{Offer}
 use Rattle.log.specs.declared.Setup.{Setup}
 use Rattle.log.specs.Sizes.{most-requests}
 use Rattle.log.specs.Fields.{version, server-count, setup-of, request-count, requests-offset, id-offset, total-length, written-sum, length-for, seconds-of, servers-of}
@@ -48,8 +48,8 @@ pub record Proper (c : Contents) : Type 0 where
   pub in-order : (i : ℕ) → i < length (c .seconds) → In-order (c .header .«server_count») (c .seconds) (c .servers) i
 
 -- contents that the writer does not refuse
-abbrev pub Writable : List Prices → Contents → Type 0
-Writable table c = first (contents-conditions table c) ≡ Passed
+abbrev pub Writable : Offer → Contents → Type 0
+Writable o c = first (contents-conditions o c) ≡ Passed
 
 -- the id has sixteen elements
 abbrev pub Sixteen : Contents → Type 0

@@ -1,4 +1,4 @@
-// The conditions on a log and on what is to be written, in 01's order. Each comes after what the price file was answered.
+// The conditions on a log and on what is to be written, in the order of 01 and 02. Each comes after what the price file was answered.
 ghost use mathlib.Core.Path.{_≡_};
 ghost use mathlib.Core.Bool.{not};
 ghost use Prim.Native.Nat.{suc, _+_, _*_, _<_, _≤_};
@@ -8,10 +8,11 @@ ghost use Rattle.base.specs.Choice.{either};
 ghost use Rattle.base.specs.Refusals.{first, otherwise, each, from};
 ghost use Rattle.prices.specs.PriceFile.{table-in};
 ghost use Rattle.prices.specs.Tariff.{tariff};
+ghost use Rattle.prices.specs.Offer.{offer};
 ghost use Rattle.log.specs.Sizes.{most-requests};
 ghost use Rattle.log.specs.Fields.{server-count, request-count, requests-offset, id-offset, total-length, written-sum, length-for, seconds-of, servers-of};
 ghost use Rattle.log.specs.Sum.{sum-of};
-ghost use Rattle.log.specs.Conditions.{setup-conditions, form-conditions, request-check, request-conditions, verdict-of};
+ghost use Rattle.log.specs.Conditions.{setup-conditions, offered-conditions, form-conditions, request-check, request-conditions, verdict-of};
 ghost use Rattle.log.specs.Contents.{contents, contents-conditions};
 use crate::Header;
 use crate::MOST_REQUESTS;
@@ -52,13 +53,21 @@ fn class_outside(count: u16, class: u8) -> bool
     count <= u16_from_u8(class)
 }
 
-// 3 to 5.
+// 3, 43 where the class has ended, 4, 5.
+pub fn offered_fault(v: Verdict, prices: &[u8], ended: bool, setup: Setup) -> Verdict
+    ensures { λ r. ⌜ r ≡ from v (offered-conditions (offer (tariff v (table-in (now (prices .entry)))) (λ class. ended)) setup) ⌝ }
+{
+    let v = or_else(v, class_outside(class_count(prices), setup.class), 3, 0);
+    let v = or_else(v, ended, 43, 0);
+    let v = or_else(v, count_outside(setup.server_count), 4, 0);
+    or_else(v, setup.server_count <= setup.home, 5, 0)
+}
+
+// 3 to 5: of a log that there is every class stands.
 pub fn setup_fault(v: Verdict, prices: &[u8], setup: Setup) -> Verdict
     ensures { λ r. ⌜ r ≡ from v (setup-conditions (table-in (now (prices .entry))) setup) ⌝ }
 {
-    let v = or_else(v, class_outside(class_count(prices), setup.class), 3, 0);
-    let v = or_else(v, count_outside(setup.server_count), 4, 0);
-    or_else(v, setup.server_count <= setup.home, 5, 0)
+    offered_fault(v, prices, false, setup)
 }
 
 // An offset or the total is not as the format says, for a log of n requests.
@@ -206,11 +215,12 @@ fn lists_fault(count: u8, seconds: &[u32], servers: &[u16]) -> Verdict
 pub fn contents_fault(
     v: Verdict,
     prices: &[u8],
+    ended: bool,
     header: Header,
     seconds: &[u32],
     servers: &[u16],
 ) -> Verdict
-    ensures { λ r. ⌜ r ≡ otherwise v (first (contents-conditions (table-in (now (prices .entry))) (contents header (now (seconds .entry)) (now (servers .entry))))) ⌝ }
+    ensures { λ r. ⌜ r ≡ otherwise v (first (contents-conditions (offer (tariff v (table-in (now (prices .entry)))) (λ class. ended)) (contents header (now (seconds .entry)) (now (servers .entry))))) ⌝ }
 {
     let count = header.server_count;
     let setup = Setup {
@@ -218,7 +228,7 @@ pub fn contents_fault(
         server_count: count,
         home: header.home,
     };
-    let v = setup_fault(v, prices, setup);
+    let v = offered_fault(v, prices, ended, setup);
     let v = or_else(v, lengths_outside(seconds.len(), servers.len()), 7, 0);
     if let Verdict::Refused(r) = v {
         return Verdict::Refused(r);

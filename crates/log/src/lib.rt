@@ -7,6 +7,7 @@ mod writer;
 
 use base::Refusal;
 pub use checksum::sum;
+pub use conditions::offered_fault;
 pub use conditions::setup_fault;
 pub use conditions::verdict;
 pub use reader::read;

@@ -6,7 +6,8 @@ ghost use lib.ListN.{length, take, drop};
 ghost use Rattle.base.specs.Bytes.{bytes};
 ghost use Rattle.base.specs.Lists.{splice};
 ghost use Rattle.prices.specs.PriceFile.{table-in};
-ghost use Rattle.prices.specs.Tariff.{tariff, built-in, price-file};
+ghost use Rattle.prices.specs.Tariff.{tariff};
+ghost use Rattle.prices.specs.Offer.{offer, built-in-offer, file-offer};
 ghost use Rattle.log.specs.Sizes.{most-requests};
 ghost use Rattle.log.specs.Sum.{sum-of};
 ghost use Rattle.log.specs.Contents.{contents, head, request-bytes, requests-bytes};
@@ -23,6 +24,7 @@ use base::bytes::le_bytes32;
 use base::refusals::or_else;
 use base::widths::u64_from_size;
 use prices::built_in;
+use prices::ended;
 use prices::file_fault;
 
 // At most 2,048 requests, in narrower types.
@@ -123,14 +125,15 @@ fn put_sum(total: usize, log: &mut [u8])
 fn write_fault(
     v: Verdict,
     prices: &[u8],
+    ended: bool,
     header: Header,
     seconds: &[u32],
     servers: &[u16],
     log: usize,
 ) -> Verdict
-    ensures { λ r. ⌜ r ≡ write-verdict (tariff v (table-in (now (prices .entry)))) (contents header (now (seconds .entry)) (now (servers .entry))) log ⌝ }
+    ensures { λ r. ⌜ r ≡ write-verdict (offer (tariff v (table-in (now (prices .entry)))) (λ class. ended)) (contents header (now (seconds .entry)) (now (servers .entry))) log ⌝ }
 {
-    let v = contents_fault(v, prices, header, seconds, servers);
+    let v = contents_fault(v, prices, ended, header, seconds, servers);
     if let Verdict::Refused(r) = v {
         return Verdict::Refused(r);
     }
@@ -142,15 +145,16 @@ fn write_fault(
 pub fn write_by(
     v: Verdict,
     prices: &[u8],
+    ended: bool,
     header: Header,
     seconds: &[u32],
     servers: &[u16],
     log: &mut [u8],
 ) -> Written
-    ensures { λ r. ⌜ r ≡ written (write-verdict (tariff v (table-in (now (prices .entry)))) (contents header (now (seconds .entry)) (now (servers .entry))) (length (now (log .entry)))) (contents header (now (seconds .entry)) (now (servers .entry))) ⌝ }
-    ensures { λ _. ⌜ now (log .exit) ≡ log-left (tariff v (table-in (now (prices .entry)))) (contents header (now (seconds .entry)) (now (servers .entry))) (now (log .entry)) ⌝ }
+    ensures { λ r. ⌜ r ≡ written (write-verdict (offer (tariff v (table-in (now (prices .entry)))) (λ class. ended)) (contents header (now (seconds .entry)) (now (servers .entry))) (length (now (log .entry)))) (contents header (now (seconds .entry)) (now (servers .entry))) ⌝ }
+    ensures { λ _. ⌜ now (log .exit) ≡ log-left (offer (tariff v (table-in (now (prices .entry)))) (λ class. ended)) (contents header (now (seconds .entry)) (now (servers .entry))) (now (log .entry)) ⌝ }
 {
-    let v = write_fault(v, prices, header, seconds, servers, log.len());
+    let v = write_fault(v, prices, ended, header, seconds, servers, log.len());
     if let Verdict::Refused(r) = v {
         return Written::Refused(r);
     }
@@ -165,11 +169,20 @@ pub fn write_by(
 
 // Write a log by the built-in table.
 pub fn write(header: Header, seconds: &[u32], servers: &[u16], log: &mut [u8]) -> Written
-    ensures { λ r. ⌜ r ≡ written (write-verdict built-in (contents header (now (seconds .entry)) (now (servers .entry))) (length (now (log .entry)))) (contents header (now (seconds .entry)) (now (servers .entry))) ⌝ }
-    ensures { λ _. ⌜ now (log .exit) ≡ log-left built-in (contents header (now (seconds .entry)) (now (servers .entry))) (now (log .entry)) ⌝ }
+    ensures { λ r. ⌜ r ≡ written (write-verdict built-in-offer (contents header (now (seconds .entry)) (now (servers .entry))) (length (now (log .entry)))) (contents header (now (seconds .entry)) (now (servers .entry))) ⌝ }
+    ensures { λ _. ⌜ now (log .exit) ≡ log-left built-in-offer (contents header (now (seconds .entry)) (now (servers .entry))) (now (log .entry)) ⌝ }
 {
     let prices = built_in();
-    write_by(Verdict::Passed, &prices, header, seconds, servers, log)
+    let gone = ended(header.class);
+    write_by(
+        Verdict::Passed,
+        &prices,
+        gone,
+        header,
+        seconds,
+        servers,
+        log,
+    )
 }
 
 // Write a log by a price file.
@@ -180,8 +193,16 @@ pub fn write_with(
     servers: &[u16],
     log: &mut [u8],
 ) -> Written
-    ensures { λ r. ⌜ r ≡ written (write-verdict (price-file (now (prices .entry))) (contents header (now (seconds .entry)) (now (servers .entry))) (length (now (log .entry)))) (contents header (now (seconds .entry)) (now (servers .entry))) ⌝ }
-    ensures { λ _. ⌜ now (log .exit) ≡ log-left (price-file (now (prices .entry))) (contents header (now (seconds .entry)) (now (servers .entry))) (now (log .entry)) ⌝ }
+    ensures { λ r. ⌜ r ≡ written (write-verdict (file-offer (now (prices .entry))) (contents header (now (seconds .entry)) (now (servers .entry))) (length (now (log .entry)))) (contents header (now (seconds .entry)) (now (servers .entry))) ⌝ }
+    ensures { λ _. ⌜ now (log .exit) ≡ log-left (file-offer (now (prices .entry))) (contents header (now (seconds .entry)) (now (servers .entry))) (now (log .entry)) ⌝ }
 {
-    write_by(file_fault(prices), prices, header, seconds, servers, log)
+    write_by(
+        file_fault(prices),
+        prices,
+        false,
+        header,
+        seconds,
+        servers,
+        log,
+    )
 }

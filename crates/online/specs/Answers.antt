@@ -7,8 +7,9 @@ use Rattle.base.specs.declared.Verdict.{Verdict}
 use Rattle.base.specs.declared.Verdict.the-variants.{Passed, Refused}
 use Rattle.prices.specs.declared.Prices.{Prices}
 use Rattle.prices.specs.Tariff.{Tariff}
+use Rattle.prices.specs.Offer.{Offer}
 use Rattle.log.specs.declared.Setup.{Setup}
-use Rattle.log.specs.Conditions.{setup-conditions}
+use Rattle.log.specs.Conditions.{setup-conditions, offered-conditions}
 use Rattle.online.specs.declared.Cache.{Cache}
 use Rattle.online.specs.declared.StartOutcome.the-variants as start
 use Rattle.online.specs.declared.Started.{Started}
@@ -22,9 +23,13 @@ use Rattle.online.specs.declared.Closed.{Closed}
 use Rattle.online.specs.Rules.{fresh, zeros, kept, accept, running, closing, shut}
 use Rattle.online.specs.Conditions.{scan-conditions, running-conditions, close-conditions}
 
--- what refuses a start: what its price file is answered, else the first condition that holds
-unfoldable pub start-verdict : Tariff → Setup → Verdict
-start-verdict t s = otherwise (t .judged) (first (setup-conditions (t .table) s))
+-- what refuses a start: what its price file is answered, else 3, 43, 4, 5
+unfoldable pub start-verdict : Offer → Setup → Verdict
+start-verdict o s = otherwise (o .tariff .judged) (first (offered-conditions o s))
+
+-- what refuses a start for a log that there is, whose class may have ended: no 43
+unfoldable pub log-start-verdict : Tariff → Setup → Verdict
+log-start-verdict t s = otherwise (t .judged) (first (setup-conditions (t .table) s))
 
 -- what refuses a scan
 unfoldable pub scan-verdict : Cache → ℕ → ℕ → Verdict
@@ -44,8 +49,12 @@ started-by Passed table s = record { cache = fresh table s; outcome = start.Read
 started-by (Refused r) table s = record { cache = zeros; outcome = start.Refused r }
 
 -- a start
-unfoldable pub started : Tariff → Setup → Started
-started t s = started-by (start-verdict t s) (t .table) s
+unfoldable pub started : Offer → Setup → Started
+started o s = started-by (start-verdict o s) (o .tariff .table) s
+
+-- a start for a log that there is
+unfoldable pub started-for-log : Tariff → Setup → Started
+started-for-log t s = started-by (log-start-verdict t s) (t .table) s
 
 -- K, or S from the last server, with a cost
 unfoldable pub mark-outcome : Cache → ℕ → ℕ → ℕ → ScanOutcome

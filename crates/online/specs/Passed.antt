@@ -1,32 +1,56 @@
 -- What a start, a scan and a close have that are not refused.
 use mathlib.Core.Bool.{false}
-use mathlib.Core.Logic.{_≢_}
+use mathlib.Core.Logic.{_≢_, _↔_}
 use mathlib.Core.Path.{_≡_}
 use native.Mathlib.Omega.{arith}
 use Prim.Native.Nat.{ℕ, _≤_, _<_}
 use lib.Dec.{ltb, eqb}
 use borrow.Author.Tests.{leb-false, ltb-false, eqb-false}
 use Rattle.base.specs.ChoiceLaws.{either-false}
+use Rattle.base.specs.Refusals.{otherwise}
 use Rattle.base.specs.RefusalLaws.{first-passed, otherwise-passed}
+use Rattle.base.specs.declared.Verdict.{Verdict}
 use Rattle.base.specs.declared.Verdict.the-variants.{Passed}
 use Rattle.prices.specs.Prices.{prices-of, In-range}
 use Rattle.prices.specs.PriceLaws.{Priced}
 use Rattle.prices.specs.Tariff.{Tariff}
+use Rattle.prices.specs.Offer.{Offer, Sold}
 use Rattle.log.specs.declared.Setup.{Setup}
 use Rattle.log.specs.Ranges.{Allowed}
-use Rattle.log.specs.AcceptedLaws.{setup-allowed}
+use Rattle.log.specs.AcceptedLaws.{setup-allowed, offered-allowed}
 use Rattle.online.specs.declared.Cache.{Cache}
 use Rattle.online.specs.Conditions.{scan-conditions, running-conditions, close-conditions}
-use Rattle.online.specs.Answers.{start-verdict, scan-verdict, running-verdict, close-verdict}
+use Rattle.online.specs.Answers.{start-verdict, log-start-verdict, scan-verdict, running-verdict, close-verdict}
 use Rattle.online.specs.Intact.{Intact, unbroken-intact}
 
--- a start that is not refused is given what is allowed, and prices in range
-pub start-passed : (t : Tariff) → Priced t → (s : Setup) → start-verdict t s ≡ Passed → Allowed s × In-range (prices-of (t .table) (s .«class»))
-unfolding start-verdict
-start-passed t p s e =
+-- a start for a log that is not refused is given what is allowed, and prices in range
+pub log-start-passed : (t : Tariff) → Priced t → (s : Setup) → log-start-verdict t s ≡ Passed → Allowed s × In-range (prices-of (t .table) (s .«class»))
+unfolding log-start-verdict
+log-start-passed t p s e =
     let (j, f) = otherwise-passed (t .judged) _ e in
     let (l, a) = setup-allowed (t .table) s .0 f in
     (a, p j (s .«class») l)
+
+-- no price file refuses, nor anything after it
+passes : (v w : Verdict) → v ≡ Passed → w ≡ Passed → otherwise v w ≡ Passed
+passes v w e f = rw (e, f)
+
+-- a start passes exactly if that does, and its class has not ended
+pub start-passed : (o : Offer) (s : Setup) → (start-verdict o s ≡ Passed) ↔ ((log-start-verdict (o .tariff) s ≡ Passed) × (o .ended (s .«class») ≡ false))
+unfolding start-verdict log-start-verdict
+start-passed o s = (to, from)
+  where
+    to : start-verdict o s ≡ Passed → (log-start-verdict (o .tariff) s ≡ Passed) × (o .ended (s .«class») ≡ false)
+    to e =
+        let (j, f) = otherwise-passed (o .tariff .judged) _ e in
+        let (sold, a) = offered-allowed o s .0 f in
+        (passes (o .tariff .judged) _ j (setup-allowed (o .tariff .table) s .1 (sold .listed, a)), sold .unended)
+
+    from : (log-start-verdict (o .tariff) s ≡ Passed) × (o .ended (s .«class») ≡ false) → start-verdict o s ≡ Passed
+    from (e, going) =
+        let (j, f) = otherwise-passed (o .tariff .judged) _ e in
+        let (l, a) = setup-allowed (o .tariff .table) s .0 f in
+        passes (o .tariff .judged) _ j (offered-allowed o s .1 (record { listed = l; unended = going }, a))
 
 -- state, second and server of a scan that is not refused
 pub record Fit (c : Cache) (second server : ℕ) : Type 0 where

@@ -1,4 +1,5 @@
 -- A fresh state as the code makes it: from prices that are a class's of some table, and its lists and words. Assumes nothing.
+use mathlib.Core.Bool.{Bool}
 use mathlib.Core.List.{List, [], _∷_, _++_}
 use mathlib.Core.Logic.{_⊎_, inl, inr, _≢_}
 use mathlib.Core.Path.{_≡_, refl, ap, _∙_}
@@ -16,21 +17,28 @@ use Rattle.base.specs.declared.Verdict.{Verdict}
 use Rattle.prices.specs.declared.Prices.{Prices}
 use Rattle.prices.specs.Prices.{prices-of}
 use Rattle.prices.specs.Tariff.{tariff}
+use Rattle.prices.specs.Offer.{Offer, offer}
 use Rattle.log.specs.declared.Setup.{Setup}
-use Rattle.log.specs.Conditions.{setup-conditions}
+use Rattle.log.specs.Conditions.{setup-conditions, offered-conditions}
 use Rattle.online.specs.declared.Started.{Started}
-use Rattle.online.specs.Answers.{start-verdict, started-by, started}
+use Rattle.online.specs.Answers.{start-verdict, log-start-verdict, started-by, started, started-for-log}
 use Rattle.online.specs.Servers.{set-of}
 
 -- something holds of each table in which the class has these prices
 abbrev pub With-prices : Prices → Setup → (List Prices → Type 0) → Type 0
 With-prices p s P = (table : List Prices) → p ≡ prices-of table (s .«class») → P table
 
--- a start by what its price file was answered, and then the setup
-pub start-made : (v w : Verdict) (table : List Prices) (s : Setup) (x : Started) → w ≡ from v (setup-conditions table s) → x ≡ started-by w table s
-    → x ≡ started (tariff v table) s
-unfolding started start-verdict
-start-made v w table s x e f = f ∙ ap (λ (u : Verdict). started-by u table s) (e ∙ from-otherwise v (setup-conditions table s))
+-- a start by what its price file was answered, and then the setup; of what is offered it asks only whether the one class has ended
+pub start-made : (w : Verdict) (ended : Bool) (o : Offer) (s : Setup) (x : Started) → ended ≡ o .ended (s .«class»)
+    → w ≡ from (o .tariff .judged) (offered-conditions (offer (o .tariff) (λ class. ended)) s) → x ≡ started-by w (o .tariff .table) s → x ≡ started o s
+unfolding started start-verdict offered-conditions
+start-made w ended o s x g e f =
+    f ∙ ap (λ (u : Verdict). started-by u (o .tariff .table) s) (e ∙ from-otherwise (o .tariff .judged) _ ∙ rw g)
+
+pub log-start-made : (v w : Verdict) (table : List Prices) (s : Setup) (x : Started) → w ≡ from v (setup-conditions table s) → x ≡ started-by w table s
+    → x ≡ started-for-log (tariff v table) s
+unfolding started-for-log log-start-verdict
+log-start-made v w table s x e f = f ∙ ap (λ (u : Verdict). started-by u table s) (e ∙ from-otherwise v (setup-conditions table s))
 
 -- one more of the same at the end
 replicate-end : (n x : ℕ) → replicate n x ++ (x ∷ []) ≡ replicate (suc n) x

@@ -1,8 +1,10 @@
-// A start: the copy at home, or 37, 38, 3 to 5.
+// A start: the copy at home, or 37, 38, 3, 43, 4, 5; and one for a log that there is, without 43.
 ghost use mathlib.Core.Path.{_≡_};
-ghost use Rattle.prices.specs.Tariff.{built-in, price-file};
+ghost use Rattle.prices.specs.PriceFile.{table-in};
+ghost use Rattle.prices.specs.Tariff.{tariff};
+ghost use Rattle.prices.specs.Offer.{built-in-offer, file-offer};
 ghost use Rattle.online.specs.Rules.{fresh, zeros};
-ghost use Rattle.online.specs.Answers.{started-by, started};
+ghost use Rattle.online.specs.Answers.{started-by, started, started-for-log};
 ghost use Rattle.online.specs.StartLaws.{With-prices};
 use crate::Cache;
 use crate::StartOutcome;
@@ -11,9 +13,11 @@ use base::Verdict;
 use base::sets::put;
 use base::widths::u16_from_u8;
 use log::Setup;
+use log::offered_fault;
 use log::setup_fault;
 use prices::Prices;
 use prices::built_in;
+use prices::ended;
 use prices::file_fault;
 use prices::of_class;
 
@@ -76,20 +80,28 @@ fn given(v: Verdict, prices: Prices, setup: Setup) -> Started
 }
 
 impl Cache {
-    // A start by the built-in table: 3 to 5.
+    // A start by the built-in table: 3, 43, 4, 5.
     pub fn start(setup: Setup) -> Started
-        ensures { λ r. ⌜ r ≡ started built-in setup ⌝ }
+        ensures { λ r. ⌜ r ≡ started built-in-offer setup ⌝ }
     {
         let prices = built_in();
-        let v = setup_fault(Verdict::Passed, &prices, setup);
+        let v = offered_fault(Verdict::Passed, &prices, ended(setup.class), setup);
         given(v, of_class(&prices, setup.class), setup)
     }
 
     // A start by a price file: 37, 38, 3 to 5.
     pub fn start_with(prices: &[u8], setup: Setup) -> Started
-        ensures { λ r. ⌜ r ≡ started (price-file (now (prices .entry))) setup ⌝ }
+        ensures { λ r. ⌜ r ≡ started (file-offer (now (prices .entry))) setup ⌝ }
     {
-        let v = setup_fault(file_fault(prices), prices, setup);
+        let v = offered_fault(file_fault(prices), prices, false, setup);
+        given(v, of_class(prices, setup.class), setup)
+    }
+
+    // A start for a log that there is, by a price file and what that was answered: 3 to 5.
+    pub fn start_for_log(v: Verdict, prices: &[u8], setup: Setup) -> Started
+        ensures { λ r. ⌜ r ≡ started-for-log (tariff v (table-in (now (prices .entry)))) setup ⌝ }
+    {
+        let v = setup_fault(v, prices, setup);
         given(v, of_class(prices, setup.class), setup)
     }
 }

@@ -3,6 +3,7 @@
 pub mod Prices
 pub mod PriceFile
 pub mod Tariff
+pub mod Offer
 -- What is proved of them.
 pub mod PriceLaws
 pub mod FileLaws

@@ -18,6 +18,7 @@ use Rattle.prices.specs.declared.Prices.{Prices}
 use Rattle.prices.specs.Prices.{priced, classes, prices-of, outside, In-range}
 use Rattle.prices.specs.PriceFile.{class-count, pair-at, table-in, pair-condition, file-conditions}
 use Rattle.prices.specs.Tariff.{Tariff, price-file, Given, none, file}
+use Rattle.prices.specs.Offer.{offer-of}
 
 -- a number that is no class has no price
 pub no-class : (table : List Prices) (class : ℕ) → length table ≤ class → prices-of table class ≡ priced 0 0
@@ -85,3 +86,9 @@ file-priced bytes e class l =
 pub given-priced : (t : Tariff) → Given t → Priced t
 given-priced t none e = classes-ranged
 given-priced t (file bytes) e = file-priced bytes e
+
+-- what is sold by each is priced by it
+pub offer-tariff : (t : Tariff) (g : Given t) → offer-of g .tariff ≡ t
+unfolding offer-of
+offer-tariff t none = refl
+offer-tariff t (file bytes) = refl

@@ -5,6 +5,7 @@ ghost use mathlib.Core.Path.{_≡_};
 ghost use lib.Dec.{ltb, eqb};
 ghost use Rattle.base.specs.Choice.{either};
 ghost use Rattle.prices.specs.Prices.{outside, window};
+ghost use Rattle.prices.specs.Offer.{built-in-offer};
 pub use file::BUILT_IN_LENGTH;
 pub use file::built_in;
 pub use file::class_count;
@@ -23,6 +24,13 @@ pub const MOST_CLASSES: usize = 256;
 
 // Room for any price file.
 pub const PRICE_ROOM: usize = 4 + 8 * MOST_CLASSES;
+
+// A class of the built-in table is no longer sold.
+pub fn ended(class: u8) -> bool
+    ensures { λ r. ⌜ r ≡ built-in-offer .ended class ⌝ }
+{
+    class == 7
+}
 
 // A price is 0 or above 1,000,000.
 fn price_outside(price: u32) -> bool

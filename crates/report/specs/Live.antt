@@ -8,7 +8,7 @@ use Rattle.prices.specs.Tariff.{Tariff}
 use Rattle.log.specs.Fields.{setup-of, request-count, seconds-of, servers-of}
 use Rattle.online.specs.declared.Cache.{Cache}
 use Rattle.online.specs.Rules.{kept, running, closing}
-use Rattle.online.specs.Answers.{started}
+use Rattle.online.specs.Answers.{started-for-log}
 use Rattle.bounds.specs.Calls.{Call, scan, run}
 
 -- the first k of some requests, as scan calls
@@ -31,7 +31,7 @@ live-cost c seconds servers i = running (state-after c seconds servers (suc i))
 
 -- a start with what a log says
 unfoldable pub opened : Tariff → List ℕ → Cache
-opened t log = started t (setup-of log) .cache
+opened t log = started-for-log t (setup-of log) .cache
 
 -- the marks of a log's requests
 unfoldable pub live-marks : Tariff → List ℕ → List ℕ

@@ -25,7 +25,7 @@ use Rattle.online.specs.declared.Cache.{Cache}
 use Rattle.online.specs.declared.ScanOutcome.the-variants as scan′
 use Rattle.online.specs.Rules.{fresh, kept, accept, running}
 use Rattle.online.specs.Conditions.{scan-conditions, close-conditions}
-use Rattle.online.specs.Answers.{start-verdict, scan-verdict, close-verdict, started, started-by, mark-outcome, scanned, scanned-by}
+use Rattle.online.specs.Answers.{log-start-verdict, scan-verdict, close-verdict, started-for-log, started-by, mark-outcome, scanned, scanned-by}
 use Rattle.bounds.specs.Calls.{Call, scan, after, run}
 use Rattle.bounds.specs.CallLaws.{after-scan}
 use Rattle.online.specs.Intact.{Intact, intact-unbroken}
@@ -106,8 +106,8 @@ module _ (t : Tariff) (priced : Priced t) (log : List ℕ) (a : Accepted t log) 
   q = requests-in log
 
   -- its start is not refused
-  pub starts : start-verdict t (setup-of log) ≡ Passed
-  unfolding start-verdict
+  pub starts : log-start-verdict t (setup-of log) ≡ Passed
+  unfolding log-start-verdict
   starts = rw (accepted.accepted-judged t log a) (accepted.setup-allowed (t .table) (setup-of log) .1 (accepted.accepted-class t log a, facts .setup))
 
   -- with prices in range
@@ -116,7 +116,7 @@ module _ (t : Tariff) (priced : Priced t) (log : List ℕ) (a : Accepted t log) 
   range = log-priced t priced log a
 
   pub opened-fresh : opened t log ≡ fresh (t .table) (setup-of log)
-  unfolding opened started started-by
+  unfolding opened started-for-log started-by
   opened-fresh = ap (λ (v : Verdict). started-by v (t .table) (setup-of log) .cache) starts
 
   -- the state after its first k requests

@@ -7,7 +7,7 @@ ghost use Rattle.base.specs.Lent.{lent};
 ghost use Rattle.base.specs.Lists.{build};
 ghost use Rattle.base.specs.declared.Verdict.the-variants.{Passed};
 ghost use Rattle.prices.specs.Tariff.{price-file};
-ghost use Rattle.online.specs.Answers.{started, closed-answer};
+ghost use Rattle.online.specs.Answers.{started-for-log, closed-answer};
 ghost use Rattle.report.specs.Live.{state-after, live-mark, live-cost};
 ghost use Rattle.log.specs.Contents.{setup-in};
 ghost use Rattle.report.specs.Replies.{outcome-letter, outcome-cost, turn, close-cost};
@@ -19,6 +19,7 @@ use log::Setup;
 use online::Cache;
 use online::CloseOutcome;
 use online::ScanOutcome;
+use prices::file_fault;
 
 // One request: the next state, the letter of the mark, and the running cost.
 pub struct Turn {
@@ -65,14 +66,14 @@ fn step(cache: Cache, second: u32, server: u16) -> Turn
 
 // The state of a log's start by a price file.
 pub fn open(prices: &[u8], header: Header) -> Cache
-    ensures { λ r. ⌜ r ≡ started (price-file (now (prices .entry))) (setup-in header) .cache ⌝ }
+    ensures { λ r. ⌜ r ≡ started-for-log (price-file (now (prices .entry))) (setup-in header) .cache ⌝ }
 {
     let setup = Setup {
         class: header.class,
         server_count: header.server_count,
         home: header.home,
     };
-    let s = Cache::start_with(prices, setup);
+    let s = Cache::start_for_log(file_fault(prices), prices, setup);
     s.cache
 }
 

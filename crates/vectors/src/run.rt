@@ -1,10 +1,11 @@
-// The library's calls, each with a number for its answer: ABSENT where it is refused.
+// The library's calls, each with a number for its answer: ABSENT where it is refused. Logs and caches are those of programs: of class 7 too.
+use base::Verdict;
 use checker::Checked;
 use checker::check;
 use log::Header;
 use log::Setup;
 use log::Written;
-use log::write;
+use log::write_with;
 use online::Cache;
 use online::RunningCost;
 use planner::LeastCosts;
@@ -38,7 +39,8 @@ pub(crate) fn written(
         home,
         id: *b"felzoumig vector",
     };
-    let w = write(header, seconds, servers, log);
+    let prices = built_in();
+    let w = write_with(&prices, header, seconds, servers, log);
     match w {
         Written::Length(n) => n,
         Written::Refused(_) => ABSENT,
@@ -95,7 +97,8 @@ fn open(class: u8, server_count: u8, home: u8) -> Cache {
         server_count,
         home,
     };
-    let s = Cache::start(setup);
+    let prices = built_in();
+    let s = Cache::start_for_log(Verdict::Passed, &prices, setup);
     s.cache
 }
 

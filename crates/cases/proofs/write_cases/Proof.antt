@@ -5,10 +5,10 @@ use Rattle.cases.proofs.write_cases.Statement.{statement}
 use Rattle.cases.proofs.write_cases.Tie as tie
 
 abbrev Inv-loop : tie.InvT-loop
-Inv-loop i₀ i = i ≤ 17
+Inv-loop i₀ i = i ≤ 24
 
 abbrev μ-loop : tie.MeasureT-loop
-μ-loop i₀ i = 17 - i
+μ-loop i₀ i = 24 - i
 
 loop-holds : tie.Need-loop-holds Inv-loop μ-loop
 loop-holds c = search needs

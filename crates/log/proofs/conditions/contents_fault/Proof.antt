@@ -5,8 +5,8 @@ use Rattle.log.specs.ContentsLaws.{contents-parts, or-else-passed, lengt
 use Rattle.log.proofs.conditions.contents_fault.Statement.{statement}
 use Rattle.log.proofs.conditions.contents_fault.Tie as tie
 
-setup-fault-requires : tie.Need-setup-fault-requires
-setup-fault-requires c κs = search needs
+offered-fault-requires : tie.Need-offered-fault-requires
+offered-fault-requires c κs = search needs
 
 lengths-outside-requires : tie.Need-lengths-outside-requires
 lengths-outside-requires c κs = search needs
@@ -22,7 +22,7 @@ returns c =
     let p = c .before .before .before in
     rw (
       contents-parts,
-      ← p .before .before .setup-fault .ensures,
+      ← p .before .before .offered-fault .ensures,
       ← p .before .lengths-outside .ensures,
       ← p .or-else .ensures,
       c .before .v .given .1,
@@ -41,7 +41,7 @@ returns-2 c =
     let p = c .before .before .before in
     rw (
       contents-parts,
-      ← p .before .before .setup-fault .ensures,
+      ← p .before .before .offered-fault .ensures,
       ← p .before .lengths-outside .ensures,
       ← p .or-else .ensures,
       c .before .enum-told .given .1,
@@ -52,7 +52,7 @@ pub contents-fault-spec : {M : Type 1} → statement M
 contents-fault-spec =
     tie.close
     (tie.spec
-    setup-fault-requires
+    offered-fault-requires
     lengths-outside-requires
     or-else-requires
     enum-known-v

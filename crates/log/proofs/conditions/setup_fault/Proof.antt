@@ -1,48 +1,15 @@
 -- `log::conditions::setup_fault` meets its contract. Assumes nothing.
 use borrow.Author.Needs.{needs}
-use Rattle.base.specs.Refusals.{from}
-use Rattle.log.specs.Conditions.{setup-conditions}
+use mathlib.Core.Path.{refl, _∙_}
+use Rattle.log.specs.ConditionLaws.{offered-setup}
 use Rattle.log.proofs.conditions.setup_fault.Statement.{statement}
 use Rattle.log.proofs.conditions.setup_fault.Tie as tie
 
-class-count-requires : tie.Need-class-count-requires
-class-count-requires c κs = search needs
-
-class-outside-requires : tie.Need-class-outside-requires
-class-outside-requires c κs = search needs
-
-or-else-requires : tie.Need-or-else-requires
-or-else-requires c κs = search needs
-
-count-outside-requires : tie.Need-count-outside-requires
-count-outside-requires c κs = search needs
-
-or-else-requires-2 : tie.Need-or-else-requires-2
-or-else-requires-2 c κs = search needs
-
-or-else-requires-3 : tie.Need-or-else-requires-3
-or-else-requires-3 c κs = search needs
+offered-fault-requires : tie.Need-offered-fault-requires
+offered-fault-requires c κs = search needs
 
 returns : tie.Need-returns
-unfolding setup-conditions from
-returns c =
-    simp (
-      c .or-else3 .ensures,
-      c .before .before .or-else2 .ensures,
-      c .before .before .before .count-outside .ensures,
-      c .before .before .before .before .or-else .ensures,
-      c .before .before .before .before .before .class-outside .ensures,
-      c .before .before .before .before .before .before .class-count .ensures,
-    )
+returns c = c .offered-fault .ensures ∙ offered-setup _ _ _ refl
 
 pub setup-fault-spec : {M : Type 1} → statement M
-setup-fault-spec =
-    tie.close
-    (tie.spec
-    class-count-requires
-    class-outside-requires
-    or-else-requires
-    count-outside-requires
-    or-else-requires-2
-    or-else-requires-3
-    returns)
+setup-fault-spec = tie.close (tie.spec offered-fault-requires returns)

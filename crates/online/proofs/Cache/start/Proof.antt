@@ -8,11 +8,14 @@ use Rattle.online.proofs.Cache.start.Tie as tie
 built-in-requires : tie.Need-built-in-requires
 built-in-requires c κs = search needs
 
-slice-aggregate-setup-fault : tie.Need-slice-aggregate-setup-fault
-slice-aggregate-setup-fault c = search needs
+slice-aggregate-offered-fault : tie.Need-slice-aggregate-offered-fault
+slice-aggregate-offered-fault c = search needs
 
-setup-fault-requires : tie.Need-setup-fault-requires
-setup-fault-requires c κs = search needs
+ended-requires : tie.Need-ended-requires
+ended-requires c κs = search needs
+
+offered-fault-requires : tie.Need-offered-fault-requires
+offered-fault-requires c κs = search needs
 
 slice-aggregate-of-class : tie.Need-slice-aggregate-of-class
 slice-aggregate-of-class c = search needs
@@ -25,16 +28,18 @@ given-requires c κs = search needs
 
 returns : tie.Need-returns
 returns c =
-    rw (built-in-given _ (c .before .before .before .before .before .built-in .ensures))
-    (start-made _ _ _ _ _ (c .before .before .before .setup-fault .ensures) (c .given .ensures _ (c .before .of-class .ensures)))
+    let judged = c .before .before .before in
+    rw (built-in-given _ (judged .before .before .before .built-in .ensures))
+    (start-made _ _ _ _ _ (judged .before .ended .ensures) (judged .offered-fault .ensures) (c .given .ensures _ (c .before .of-class .ensures)))
 
 pub start-spec : {M : Type 1} → statement M
 start-spec =
     tie.close
     (tie.spec
     built-in-requires
-    slice-aggregate-setup-fault
-    setup-fault-requires
+    slice-aggregate-offered-fault
+    ended-requires
+    offered-fault-requires
     slice-aggregate-of-class
     of-class-requires
     given-requires

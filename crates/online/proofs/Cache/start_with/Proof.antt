@@ -1,4 +1,5 @@
 -- `online::Cache::start_with` meets its contract. Assumes nothing.
+use mathlib.Core.Path.{refl}
 use Rattle.online.specs.StartLaws.{start-made}
 use borrow.Author.Needs.{needs}
 use Rattle.online.proofs.Cache.start_with.Statement.{statement}
@@ -7,8 +8,8 @@ use Rattle.online.proofs.Cache.start_with.Tie as tie
 file-fault-requires : tie.Need-file-fault-requires
 file-fault-requires c κs = search needs
 
-setup-fault-requires : tie.Need-setup-fault-requires
-setup-fault-requires c κs = search needs
+offered-fault-requires : tie.Need-offered-fault-requires
+offered-fault-requires c κs = search needs
 
 of-class-requires : tie.Need-of-class-requires
 of-class-requires c κs = search needs
@@ -19,9 +20,9 @@ given-requires c κs = search needs
 returns : tie.Need-returns
 returns c =
     rw (← c .before .before .before .file-fault .ensures)
-    (start-made _ _ _ _ _ (c .before .before .setup-fault .ensures) (c .given .ensures _ (c .before .of-class .ensures)))
+    (start-made _ _ _ _ _ refl (c .before .before .offered-fault .ensures) (c .given .ensures _ (c .before .of-class .ensures)))
 
 pub start-with-spec : {M : Type 1} → statement M
 start-with-spec =
     tie.close
-    (tie.spec file-fault-requires setup-fault-requires of-class-requires given-requires returns)
+    (tie.spec file-fault-requires offered-fault-requires of-class-requires given-requires returns)

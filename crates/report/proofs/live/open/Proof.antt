@@ -3,11 +3,14 @@ use borrow.Author.Needs.{needs}
 use Rattle.report.proofs.live.open.Statement.{statement}
 use Rattle.report.proofs.live.open.Tie as tie
 
-start-with-requires : tie.Need-start-with-requires
-start-with-requires c κs = search needs
+file-fault-requires : tie.Need-file-fault-requires
+file-fault-requires c κs = search needs
+
+start-for-log-requires : tie.Need-start-for-log-requires
+start-for-log-requires c κs = search needs
 
 returns : tie.Need-returns
-returns c = rw (c .before .start-with .ensures)
+returns c = rw (c .before .start-for-log .ensures, c .before .before .file-fault .ensures)
 
 pub open-spec : {M : Type 1} → statement M
-open-spec = tie.close (tie.spec start-with-requires returns)
+open-spec = tie.close (tie.spec file-fault-requires start-for-log-requires returns)

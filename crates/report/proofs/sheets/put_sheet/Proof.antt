@@ -8,7 +8,7 @@ use Rattle.log.specs.AcceptedLaws.{accepted-sound}
 use Rattle.log.specs.Fields.{header-of}
 use Rattle.log.specs.Contents.{setup-in}
 use Rattle.log.specs.declared.Header.{Header}
-use Rattle.online.specs.Answers.{started}
+use Rattle.online.specs.Answers.{started-for-log}
 use Rattle.report.specs.SheetLaws.{runs-read, sheet-made, closing-made}
 use Rattle.report.specs.Live.{opened}
 use Rattle.report.specs.Alike.{lent-alike}
@@ -45,7 +45,7 @@ give-live-requires c κs =
     let t = price-file file in
     let ((a, from, n), ((seconds, servers), _)) = s .pre in
     let few = accepted-sound t log a .requests-most in
-    let o : c .before .before .«open» .result ≡ opened t log = c .before .before .«open» .ensures ∙ ap (λ (h : Header). started t (setup-in h) .cache) from in (
+    let o : c .before .before .«open» .result ≡ opened t log = c .before .before .«open» .ensures ∙ ap (λ (h : Header). started-for-log t (setup-in h) .cache) from in (
       rw (n, o) (runs-read t (file-priced file) log a _ _ seconds servers),
       omega (arith, n, few),
       omega (arith, n, few),
@@ -95,7 +95,7 @@ returns c =
     let file = s .args .prices .now in
     let t = price-file file in
     let ((a, from, n), ((seconds, servers), _)) = s .pre in
-    let o : c .before .before .before .before .before .before .before .before .before .before .before .before .before .before .«open» .result ≡ opened t log = c .before .before .before .before .before .before .before .before .before .before .before .before .before .before .«open» .ensures ∙ ap (λ (h : Header). started t (setup-in h) .cache) from in
+    let o : c .before .before .before .before .before .before .before .before .before .before .before .before .before .before .«open» .result ≡ opened t log = c .before .before .before .before .before .before .before .before .before .before .before .before .before .before .«open» .ensures ∙ ap (λ (h : Header). started-for-log t (setup-in h) .cache) from in
     let lines = c .before .before .put-lines .ensures in
     let planned = c .before .before .before .before .before .before .before .before .before .before .before .before .before .before .before .before .before .before .before .plan-marks .ensures in
     let least = c .before .before .before .before .before .before .before .before .before .before .before .before .before .before .before .before .find-least .ensures in
