@@ -57,9 +57,11 @@ fn class_outside(count: u16, class: u8) -> bool
 pub fn offered_fault(v: Verdict, prices: &[u8], ended: bool, setup: Setup) -> Verdict
     ensures { λ r. ⌜ r ≡ from v (offered-conditions (offer (tariff v (table-in (now (prices .entry)))) (λ class. ended)) setup) ⌝ }
 {
-    let v = or_else(v, class_outside(class_count(prices), setup.class), 3, 0);
+    let unknown = class_outside(class_count(prices), setup.class);
+    let miscounted = count_outside(setup.server_count);
+    let v = or_else(v, unknown, 3, 0);
     let v = or_else(v, ended, 43, 0);
-    let v = or_else(v, count_outside(setup.server_count), 4, 0);
+    let v = or_else(v, miscounted, 4, 0);
     or_else(v, setup.server_count <= setup.home, 5, 0)
 }
 

@@ -11,14 +11,14 @@ class-count-requires c κs = search needs
 class-outside-requires : tie.Need-class-outside-requires
 class-outside-requires c κs = search needs
 
+count-outside-requires : tie.Need-count-outside-requires
+count-outside-requires c κs = search needs
+
 or-else-requires : tie.Need-or-else-requires
 or-else-requires c κs = search needs
 
 or-else-requires-2 : tie.Need-or-else-requires-2
 or-else-requires-2 c κs = search needs
-
-count-outside-requires : tie.Need-count-outside-requires
-count-outside-requires c κs = search needs
 
 or-else-requires-3 : tie.Need-or-else-requires-3
 or-else-requires-3 c κs = search needs
@@ -32,9 +32,9 @@ returns c =
     simp (
       c .or-else4 .ensures,
       c .before .before .or-else3 .ensures,
-      c .before .before .before .count-outside .ensures,
-      c .before .before .before .before .or-else2 .ensures,
-      c .before .before .before .before .before .or-else .ensures,
+      c .before .before .before .or-else2 .ensures,
+      c .before .before .before .before .or-else .ensures,
+      c .before .before .before .before .before .count-outside .ensures,
       c .before .before .before .before .before .before .class-outside .ensures,
       c .before .before .before .before .before .before .before .class-count .ensures,
     )
@@ -45,9 +45,9 @@ offered-fault-spec =
     (tie.spec
     class-count-requires
     class-outside-requires
+    count-outside-requires
     or-else-requires
     or-else-requires-2
-    count-outside-requires
     or-else-requires-3
     or-else-requires-4
     returns)
