@@ -2,7 +2,8 @@
  * Server is station, request is scan, transfer is send, cost is bill in the printed page's words.
  *
  * A call whose name ends in _with takes the bytes of a price file, first of its arguments, and judges them each time: 37 and 38 come before all other
- * refusals. A caller without a price file uses the other names, for which the built-in table of eight classes holds.
+ * refusals. A caller without a price file uses the other names, for which the built-in table of eight classes holds. Of these class 7 is no longer
+ * sold: caching_write and caching_start refuse it with 43, right after 3, and every other call takes its logs. With a price file there is no 43.
  *
  * What the caller has to see to; of what is handed in nothing else is asked:
  * - each pointer has as many elements behind it as the length after it says; with length 0 it may be null;
@@ -88,7 +89,7 @@ struct caching_read_answer caching_read(const uint8_t *log, size_t log_length, u
 struct caching_read_answer caching_read_with(const uint8_t *prices, size_t prices_length, const uint8_t *log, size_t log_length,
                                              uint32_t *seconds, size_t seconds_length, uint16_t *servers, size_t servers_length);
 
-/* value: the number of bytes written */
+/* value: the number of bytes written; 43 for class 7 */
 struct caching_answer caching_write(struct caching_header header, const uint32_t *seconds, size_t seconds_length,
                                     const uint16_t *servers, size_t servers_length, uint8_t *log, size_t log_length);
 
@@ -117,7 +118,7 @@ struct caching_answer caching_least(const uint8_t *log, size_t log_length, uint6
 struct caching_answer caching_least_with(const uint8_t *prices, size_t prices_length, const uint8_t *log, size_t log_length,
                                          uint64_t *costs, size_t costs_length);
 
-/* the state has the prices of the class */
+/* the state has the prices of the class; 43 for class 7 */
 struct caching_cache_answer caching_start(uint8_t file_class, uint8_t server_count, uint8_t home);
 
 struct caching_cache_answer caching_start_with(const uint8_t *prices, size_t prices_length, uint8_t file_class, uint8_t server_count,

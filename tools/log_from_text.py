@@ -1,11 +1,12 @@
 #!/usr/bin/env python3
 """A log (document 01's 'The log') from lines of `second station`, on standard input and output.
 
-usage: log_from_text.py CLASS STATIONS HOME [ID] < requests.txt > week.log
+usage: log_from_text.py [--prices] CLASS STATIONS HOME [ID] < requests.txt > week.log
 
-ID is a text of at most 16 bytes. A line that is empty or begins with # is passed over. A number must fit its field; whether the log is a right
-one is the reader's to say: the sheet program prints one line of refusal for one that is not. Where a word or a line is not as it should be, nothing
-is written, and the message names it.
+ID is a text of at most 16 bytes that does not begin with --. A line that is empty or begins with # is passed over. A number must fit its field;
+whether the log is a right one is the reader's to say: the sheet program prints one line of refusal for one that is not. Class 7 of the built-in
+table is no longer sold, and refused here as by the library's writer (43); --prices, before or after the other words, says that the log goes with a
+price file, whose class 7 is one like any other. Where a word or a line is not as it should be, nothing is written, and the message names it.
 """
 import struct
 import sys
@@ -31,9 +32,13 @@ def log(file_class, stations, home, file_id, scans):
 
 
 def main(words):
-    if len(words) not in (3, 4):
+    flags = [word for word in words if word.startswith('--')]
+    words = [word for word in words if not word.startswith('--')]
+    if flags not in ([], ['--prices']) or len(words) not in (3, 4):
         sys.exit(__doc__)
     setup = [number(word, 8, name) for word, name in zip(words, ('CLASS', 'STATIONS', 'HOME'))]
+    if setup[0] == 7 and not flags:
+        sys.exit('CLASS: 7 of the built-in table is no longer sold (43); --prices is for a log that goes with a price file')
     file_id = words[3].encode(errors='surrogateescape') if len(words) == 4 else b''
     if len(file_id) > 16:
         sys.exit('ID: more than 16 bytes')

@@ -1,4 +1,5 @@
-/* Every call of include/caching.h once, on the week of document 01's case C, as C links it, then those with a price file; prints what each gives. */
+/* Every call of include/caching.h once, on the week of document 01's case C, as C links it, a write and a start of the class that is no longer sold,
+ * then those with a price file; prints what each gives. */
 #include "../../include/caching.h"
 #include <stdio.h>
 #include <string.h>
@@ -56,6 +57,15 @@ int main(void)
     say("close", live.answer);
     say("close again", caching_close(live.cache).answer);
     say("running still", caching_running(live.cache));
+
+    uint8_t same[64];
+    memcpy(same, log, 64);
+    header.file_class = 7;
+    say("write class 7", caching_write(header, seconds, 4, servers, 4, log, 64));
+    printf("as it was: %d\n", memcmp(same, log, 64) == 0);
+    live = caching_start(7, 3, 0);
+    say("start class 7", live.answer);
+    say("scan of zeros", caching_scan(live.cache, 1, 1).answer);
 
     /* two classes, 5 and 3, 2 and 20; the same with one byte less, and with a price of 0 */
     const uint8_t prices[20] = {2, 0, 4, 0, 5, 0, 0, 0, 3, 0, 0, 0, 2, 0, 0, 0, 20, 0, 0, 0};

@@ -70,12 +70,6 @@ fn read_accepted(prices: PriceFile, file: &[u8], seconds: &mut [u32], servers: &
     Ok((log.header, log.requests.len() as u16))
 }
 
-fn started(prices: PriceFile, class: u8, server_count: u8, home: u8) -> Result<Cache, Refusal> {
-    let table = Table::read(prices)?;
-    log::check_setup(table.classes(), class, server_count, home)?;
-    Ok(Cache::fresh(table.of(class), server_count, home))
-}
-
 impl Calls for Simple {
     fn sum(file: &[u8]) -> u32 {
         log::sum(file)
@@ -89,7 +83,7 @@ impl Calls for Simple {
     }
 
     fn write(prices: PriceFile, header: &Header, seconds: &[u32], servers: &[u16], out: &mut [u8]) -> Result<u64, Refusal> {
-        let file = log::write(Table::read(prices)?.classes(), header, seconds, servers)?;
+        let file = log::write(&Table::read(prices)?, header, seconds, servers)?;
         check_room(out.len(), file.len())?;
         put(out, &file);
         Ok(file.len() as u64)
@@ -119,7 +113,7 @@ impl Calls for Simple {
     }
 
     fn start(prices: PriceFile, class: u8, server_count: u8, home: u8) -> (Cache, Result<(), Refusal>) {
-        online::or_zeros(started(prices, class, server_count, home))
+        online::or_zeros(Table::read(prices).and_then(|table| online::start(&table, class, server_count, home)))
     }
 
     fn scan(cache: &Cache, second: u32, server: u16) -> (Cache, Result<Served, Refusal>) {

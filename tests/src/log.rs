@@ -1,5 +1,6 @@
-//! 01, 'The log' and the refusals 1 to 13.
+//! 01, 'The log' and the refusals 1 to 13, and 43 of 02's request 10.
 
+use crate::prices::Table;
 use crate::{refuse, Refusal};
 
 #[derive(Clone, Copy, Debug, PartialEq, Eq, Default)]
@@ -44,10 +45,13 @@ pub fn number32(file: &[u8], at: usize) -> u32 {
     u32::from_le_bytes(file[at..at + 4].try_into().unwrap())
 }
 
-/// 3, 4, 5, for a number of classes.
-pub fn check_setup(classes: usize, class: u8, server_count: u8, home: u8) -> Result<(), Refusal> {
+/// 3, 43, 4, 5, for a number of classes; 43 is of one class, or of none for a log that exists already.
+pub fn check_setup(classes: usize, unsold: Option<u8>, class: u8, server_count: u8, home: u8) -> Result<(), Refusal> {
     if class as usize >= classes {
         return refuse(3, 0);
+    }
+    if unsold == Some(class) {
+        return refuse(43, 0);
     }
     if server_count < 1 || server_count > 64 {
         return refuse(4, 0);
@@ -74,7 +78,7 @@ fn check_requests(server_count: u8, requests: &[Request]) -> Result<(), Refusal>
     Ok(())
 }
 
-/// The header and the number of requests, or the first of 1 to 10 that holds, by a way to take the sum.
+/// The header and the number of requests, or the first of 1 to 10 that holds, by a way to take the sum. Every class is read, sold or not.
 pub fn header_of(classes: usize, file: &[u8], sum: impl Fn(&[u8]) -> u32) -> Result<(Header, usize), Refusal> {
     if file.len() < 40 {
         return refuse(1, 0);
@@ -83,7 +87,7 @@ pub fn header_of(classes: usize, file: &[u8], sum: impl Fn(&[u8]) -> u32) -> Res
         return refuse(2, 0);
     }
     let header = Header { class: file[2], server_count: file[3], home: file[4], id: file[24..40].try_into().unwrap() };
-    check_setup(classes, header.class, header.server_count, header.home)?;
+    check_setup(classes, None, header.class, header.server_count, header.home)?;
     if file[5] != 0 {
         return refuse(6, 0);
     }
@@ -136,13 +140,18 @@ pub fn encode(header: &Header, requests: &[Request]) -> Vec<u8> {
     file
 }
 
-/// The file for a header and two lists, or the first of 3, 4, 5, 7 and 11 to 13 that holds.
-pub fn write(classes: usize, header: &Header, seconds: &[u32], servers: &[u16]) -> Result<Vec<u8>, Refusal> {
-    check_setup(classes, header.class, header.server_count, header.home)?;
+/// Requests from two lists of one length.
+pub fn requests_of(seconds: &[u32], servers: &[u16]) -> Vec<Request> {
+    seconds.iter().zip(servers).map(|(&second, &server)| Request { second, server }).collect()
+}
+
+/// The file for a header and two lists, or the first of 3, 43, 4, 5, 7 and 11 to 13 that holds.
+pub fn write(table: &Table, header: &Header, seconds: &[u32], servers: &[u16]) -> Result<Vec<u8>, Refusal> {
+    check_setup(table.classes(), table.unsold(), header.class, header.server_count, header.home)?;
     if seconds.len() != servers.len() || seconds.len() > MOST_REQUESTS {
         return refuse(7, 0);
     }
-    let requests: Vec<Request> = seconds.iter().zip(servers).map(|(&second, &server)| Request { second, server }).collect();
+    let requests = requests_of(seconds, servers);
     check_requests(header.server_count, &requests)?;
     Ok(encode(header, &requests))
 }
@@ -174,7 +183,6 @@ impl Log {
 #[cfg(test)]
 mod tests {
     use super::*;
-    use crate::prices::Table;
     use crate::random::{damaged_log, random_log, random_table, Random};
 
     #[test]
@@ -203,15 +211,20 @@ mod tests {
     }
 
     #[test]
-    fn read_and_write_are_inverse() {
+    fn read_and_write_are_inverse_where_the_class_is_sold() {
         let mut random = Random::new(1);
+        let mut refused = 0;
         for _ in 0..500 {
             let table = random_table(&mut random);
             let log = random_log(&mut random, &table, 40);
             let file = log.bytes();
             assert_eq!(read(table.classes(), &file), Ok(log.clone()));
-            assert_eq!(write(table.classes(), &log.header, &log.seconds(), &log.servers()), Ok(file));
+            let unsold = table.unsold() == Some(log.header.class);
+            refused += usize::from(unsold);
+            let written = if unsold { refuse(43, 0) } else { Ok(file) };
+            assert_eq!(write(&table, &log.header, &log.seconds(), &log.servers()), written);
         }
+        assert!(refused > 10, "{refused}");
     }
 
     #[test]

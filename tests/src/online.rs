@@ -1,8 +1,8 @@
-//! 01, 'The live keeper', the refusals 11, 12 and 32 to 35, and 02's requests 02 and 05.
+//! 01, 'The live keeper', the refusals 11, 12 and 32 to 35, and 02's requests 02, 05 and 10.
 
-use crate::log::{Request, LAST_SECOND, MOST_REQUESTS};
+use crate::log::{check_setup, Header, Request, LAST_SECOND, MOST_REQUESTS};
 use crate::planner::Mark;
-use crate::prices::Prices;
+use crate::prices::{Prices, Table};
 use crate::{refuse, Refusal};
 
 /// The state, in the library's order of fields.
@@ -53,6 +53,22 @@ pub const ZEROS: Cache = Cache {
     held: 0,
     closed: false,
 };
+
+/// A new cache, or the first of 3, 43, 4 and 5 that holds; 43 is of one class, or of none.
+fn started(table: &Table, unsold: Option<u8>, class: u8, server_count: u8, home: u8) -> Result<Cache, Refusal> {
+    check_setup(table.classes(), unsold, class, server_count, home)?;
+    Ok(Cache::fresh(table.of(class), server_count, home))
+}
+
+/// The public start: the class that is no longer sold is refused.
+pub fn start(table: &Table, class: u8, server_count: u8, home: u8) -> Result<Cache, Refusal> {
+    started(table, table.unsold(), class, server_count, home)
+}
+
+/// The start for a log that exists already, whether or not its class is sold.
+pub fn start_for_log(table: &Table, header: &Header) -> Result<Cache, Refusal> {
+    started(table, None, header.class, header.server_count, header.home)
+}
 
 /// The answer of a start, beside the state that it gives.
 pub fn or_zeros(started: Result<Cache, Refusal>) -> (Cache, Result<(), Refusal>) {
@@ -257,7 +273,7 @@ mod tests {
     use crate::planner;
     use crate::calls::{Calls, Simple};
     use crate::log::Log;
-    use crate::prices::HIGHEST;
+    use crate::prices::{BUILT_IN, HIGHEST, UNSOLD};
     use crate::random::{random_header, random_requests, random_table, Random};
 
     #[test]
@@ -270,8 +286,7 @@ mod tests {
             let count = random.below(25) as usize;
             let mut requests = random_requests(&mut random, prices, &header, count);
             requests.retain(|request| request.second <= 20_000);
-            let (mut cache, ready) = Simple::start(table.file(), header.class, header.server_count, header.home);
-            assert_eq!(ready, Ok(()));
+            let mut cache = start_for_log(&table, &header).unwrap();
             let mut marks = vec![];
             for request in &requests {
                 let (next, served) = cache.scan(request.second, request.server);
@@ -296,6 +311,8 @@ mod tests {
         let start = |class, server_count, home| Simple::start(None, class, server_count, home);
         let (cache, _) = start(0, 2, 0);
         assert_eq!(start(8, 2, 0), (ZEROS, refuse(3, 0)));
+        assert_eq!(start(7, 2, 0), (ZEROS, refuse(43, 0)));
+        assert_eq!(start(7, 0, 9), (ZEROS, refuse(43, 0)));
         assert_eq!(start(0, 0, 0), (ZEROS, refuse(4, 0)));
         assert_eq!(start(0, 65, 0), (ZEROS, refuse(4, 0)));
         assert_eq!(start(0, 2, 2), (ZEROS, refuse(5, 0)));
@@ -317,6 +334,23 @@ mod tests {
         assert_eq!(later.scan(5, 0), (later, refuse(35, 0)));
         let wrong = Cache { server_count: 200, ..cache };
         assert_eq!(wrong.scan(1, 100), (wrong, refuse(32, 0)));
+    }
+
+    /// They differ in 43 alone.
+    #[test]
+    fn both_starts() {
+        let table = Table::built_in();
+        for (class, server_count, home) in [(0, 2, 1), (6, 2, 1), (8, 2, 1), (8, 0, 0), (6, 0, 0), (6, 65, 0), (6, 2, 2)] {
+            let header = Header { class, server_count, home, id: [0; 16] };
+            assert_eq!(start_for_log(&table, &header), start(&table, class, server_count, home));
+        }
+        let sold = Table::of_pairs(&BUILT_IN);
+        for (server_count, home) in [(2, 1), (0, 0), (65, 0), (2, 2)] {
+            let header = Header { class: UNSOLD, server_count, home, id: [0; 16] };
+            assert_eq!(start_for_log(&table, &header), start(&sold, UNSOLD, server_count, home));
+            assert_eq!(start(&table, UNSOLD, server_count, home), refuse(43, 0));
+        }
+        assert!(start(&sold, UNSOLD, 2, 1).is_ok());
     }
 
     #[test]

@@ -1,4 +1,4 @@
-//! 01, 'Prices', and 02's request 05: price files and the refusals 37 and 38.
+//! 01, 'Prices', and 02's requests 05 and 10: price files with the refusals 37 and 38, and the class that is no longer sold.
 
 use crate::log::{number16, number32};
 use crate::{refuse, Refusal};
@@ -21,6 +21,9 @@ pub const MOST_CLASSES: usize = 256;
 
 /// Hold and transfer price of each class of the built-in table.
 pub const BUILT_IN: [(u32, u32); 8] = [(1, 10), (1, 25), (2, 25), (3, 30), (3, 100), (5, 600), (7, 5), (1, HIGHEST)];
+
+/// The class of the built-in table that is no longer sold.
+pub const UNSOLD: u8 = 7;
 
 /// Prices to try beside those of the built-in table: no window, a window of one second, a rest, the lowest and the highest.
 pub const EDGES: [(u32, u32); 8] =
@@ -95,6 +98,11 @@ impl Table {
 
     pub fn classes(&self) -> usize {
         self.prices.len()
+    }
+
+    /// The class that is no longer sold: a price file has none.
+    pub fn unsold(&self) -> Option<u8> {
+        self.file.is_none().then_some(UNSOLD)
     }
 
     /// The prices of a class below the number of classes.

@@ -197,6 +197,16 @@ pub fn random_requests(random: &mut Random, prices: Prices, header: &Header, cou
 /// A log that reading with a table accepts, with at most `most` requests.
 pub fn random_log(random: &mut Random, table: &Table, most: usize) -> Log {
     let header = random_header(random, table);
+    log_with(random, table, header, most)
+}
+
+/// The same, of a class.
+pub fn random_log_of(random: &mut Random, table: &Table, class: u8, most: usize) -> Log {
+    let header = Header { class, ..random_header(random, table) };
+    log_with(random, table, header, most)
+}
+
+fn log_with(random: &mut Random, table: &Table, header: Header, most: usize) -> Log {
     let count = match random.below(12) {
         0 => 0,
         1 => 1,

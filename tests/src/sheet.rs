@@ -1,16 +1,18 @@
-//! 01, 'The sheet', with the last line of 02's request 02 and the price file of its request 05: what the program prints for any input.
+//! 01, 'The sheet', with the last line of 02's request 02, the price file of its request 05 and the old logs of its request 10: what the program
+//! prints for any input.
 
 use crate::log::{self, Log};
-use crate::online::Cache;
+use crate::online::start_for_log;
 use crate::planner::{self, letter};
-use crate::prices::{PriceFile, Prices, Table};
+use crate::prices::{PriceFile, Table};
 use crate::Refusal;
 
 /// The sheet of a log.
-pub fn sheet(prices: Prices, log: &Log) -> String {
+pub fn sheet(table: &Table, log: &Log) -> String {
+    let prices = table.of(log.header.class);
     let plan = planner::plan(prices, log);
     let least = planner::least(prices, log);
-    let mut cache = Cache::fresh(prices, log.header.server_count, log.header.home);
+    let mut cache = start_for_log(table, &log.header).unwrap();
     let mut text = String::from("scan second station plan live least bill\n");
     for (i, request) in log.requests.iter().enumerate() {
         let (next, served) = cache.scan(request.second, request.server);
@@ -36,7 +38,7 @@ pub fn refusal_line(refusal: Refusal) -> String {
 fn sheet_of(prices: PriceFile, input: &[u8]) -> Result<String, Refusal> {
     let table = Table::read(prices)?;
     let log = log::read(table.classes(), input)?;
-    Ok(sheet(table.of(log.header.class), &log))
+    Ok(sheet(&table, &log))
 }
 
 /// What the program prints for a price file, or none, and an input.

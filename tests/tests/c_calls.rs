@@ -33,6 +33,10 @@ running: 0 0 62 0
 close: 0 0 82 0
 close again: 33 0 0 0
 running still: 0 0 62 0
+write class 7: 43 0 0 0
+as it was: 1
+start class 7: 43 0 0 0
+scan of zeros: 11 0 0 0
 write with: 0 0 64 0
 write with wrong: 38 1 0 0
 read with: 0 0 4 0

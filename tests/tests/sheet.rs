@@ -1,10 +1,11 @@
 //! The program `sheet`, run as a user would run it, compared with the simple version: target/bin/sheet of this repository.
 
+use reference::compare::lifetime::{tables_with_class_7, SAMPLE, SAMPLE_SHEET};
 use reference::compare::prices::boundary_files;
 use reference::compare::weeks::log_of;
-use reference::log::{Header, Log, Request};
-use reference::prices::{encode, Table, BUILT_IN, HIGHEST};
-use reference::random::{damaged_log, damaged_prices, random_log, random_prices, Random};
+use reference::log::{self, Header, Log, Request};
+use reference::prices::{encode, Table, BUILT_IN, HIGHEST, UNSOLD};
+use reference::random::{damaged_log, damaged_prices, random_log, random_log_of, random_prices, Random};
 use reference::sheet::printed;
 use std::ffi::OsStr;
 use std::fs::{self, File};
@@ -278,6 +279,45 @@ fn full_weeks() {
     for _ in 0..20 {
         let input = random_log(&mut random, &Table::built_in(), 2048).bytes();
         assert_eq!(run(&input), printed(None, &input));
+    }
+}
+
+/// The sheet of an old log as the program printed it when its class was sold; with the built-in table as a price file it is the same.
+#[test]
+fn the_sample_of_a_class_that_is_no_longer_sold() {
+    assert_eq!(run(SAMPLE), SAMPLE_SHEET);
+    assert_eq!(printed(None, SAMPLE), SAMPLE_SHEET);
+    assert_eq!(given(with(file_with("sample.prices", &encode(&BUILT_IN))), SAMPLE), SAMPLE_SHEET);
+}
+
+/// What the program prints is the simple version's sheet, and a whole one.
+fn is_a_sheet(text: String, expected: String) {
+    assert_eq!(text, expected);
+    assert!(text.lines().last().unwrap().starts_with("close "), "{text}");
+}
+
+#[test]
+fn each_cut_of_logs_that_are_no_longer_sold() {
+    let mut random = Random::new(8);
+    let mut logs = vec![log::read(8, SAMPLE).unwrap()];
+    logs.extend((0..40).map(|_| random_log_of(&mut random, &Table::built_in(), UNSOLD, 12)));
+    for log in logs {
+        for count in 0..=log.requests.len() {
+            let input = log.cut(count).bytes();
+            is_a_sheet(run(&input), printed(None, &input));
+        }
+    }
+}
+
+#[test]
+fn class_7_of_a_price_file() {
+    let mut random = Random::new(9);
+    for _ in 0..20 {
+        for table in tables_with_class_7(&mut random) {
+            let prices = file_with("seven.prices", table.file().unwrap());
+            let input = random_log_of(&mut random, &table, 7, 30).bytes();
+            is_a_sheet(given(with(prices), &input), printed(table.file(), &input));
+        }
     }
 }
 

@@ -13,7 +13,7 @@ fn on(bytes: usize, call: fn()) {
     Builder::new().stack_size(bytes).spawn(call).unwrap().join().unwrap();
 }
 
-/// The longest log, of the most servers.
+/// The longest log, of the most servers. Its class is no longer sold without a price file, so what is written or started is of another.
 fn longest() -> Vec<u8> {
     let header = Header { class: 7, server_count: 64, home: 63, id: [7; 16] };
     let requests = (1..=2_048).map(|i| Request { second: 1_953 * i, server: (29 * i % 64) as u16 }).collect();
@@ -59,6 +59,7 @@ fn read_and_write() {
         for prices in [None, Some(&prices()[..])] {
             let (header, count) = Library::read(prices, &longest(), &mut seconds, &mut servers);
             assert_eq!(count, Ok(2_048));
+            let header = Header { class: 6, ..header };
             assert_eq!(Library::write(prices, &header, &seconds, &servers, &mut vec![0; 12_328]), Ok(12_328));
         }
     });
@@ -68,7 +69,7 @@ fn read_and_write() {
 fn online() {
     on(20_000, || {
         for prices in [None, Some(&prices()[..])] {
-            let (cache, _) = Library::start(prices, 7, 64, 63);
+            let (cache, _) = Library::start(prices, 6, 64, 63);
             let (cache, served) = Library::scan(&cache, 1, 0);
             assert!(served.is_ok());
             assert!(Library::close(&cache).1.is_ok());

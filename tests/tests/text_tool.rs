@@ -1,5 +1,6 @@
 //! tools/log_from_text.py and tools/prices_from_text.py, run as a user would run them.
 
+use reference::log::{requests_of, Header, Log};
 use std::io::Write;
 use std::path::{Path, PathBuf};
 use std::process::{Command, Output, Stdio};
@@ -83,6 +84,46 @@ fn wrong_words() {
     refused(LOGS, &["0", "four", "0"], b"", "STATIONS: a whole number is wanted, not 'four'");
     refused(LOGS, &["0", "4", "-1"], b"", "HOME: a whole number is wanted, not '-1'");
     refused(LOGS, &["0", "4", "0", "seventeen letters"], b"", "ID: more than 16 bytes");
+}
+
+const UNSOLD: &str = "CLASS: 7 of the built-in table is no longer sold (43); --prices is for a log that goes with a price file";
+
+/// Class 7 is refused, whatever else is wrong with the log, unless it is of a price file: then the bytes are those of the sample.
+#[test]
+fn class_7() {
+    let text = std::fs::read(root().join("samples/lifetime.txt")).unwrap();
+    let log = std::fs::read(root().join("samples/lifetime.log")).unwrap();
+    for words in [["7", "4", "0", "lifetime"], ["007", "4", "0", ""], ["7", "0", "9", "lifetime"]] {
+        refused(LOGS, &words, &text, UNSOLD);
+        refused(LOGS, &words, b"5\n", UNSOLD);
+    }
+    assert_eq!(written(LOGS, &["--prices", "7", "4", "0", "lifetime"], &text), log);
+    assert_eq!(written(LOGS, &["7", "4", "0", "lifetime", "--prices"], &text), log);
+}
+
+#[test]
+fn other_classes() {
+    for class in [6, 8, 17] {
+        let header = Header { class, server_count: 4, home: 1, id: *b"0123456789abcdef" };
+        let log = Log { header, requests: requests_of(&[5, 8], &[1, 2]) }.bytes();
+        let class = class.to_string();
+        assert_eq!(written(LOGS, &[&class, "4", "1", "0123456789abcdef"], b"5 1\n8 2\n"), log);
+        assert_eq!(written(LOGS, &["--prices", &class, "4", "1", "0123456789abcdef"], b"5 1\n8 2\n"), log);
+    }
+}
+
+/// Nothing is written, and the usage is given.
+#[test]
+fn wrong_use() {
+    let counts = ["", "--prices", "0 4", "0 4 0 id more", "--prices 7 4", "--prices 7 4 0 id more"];
+    let flags = ["--prices 7 4 0 --prices", "7 4 0 --price", "--prices=7 4 0", "--help", "0 4 0 --help", "--prices 7 4 0 --other", "-- 0 4 0"];
+    for words in counts.into_iter().chain(flags) {
+        let output = run(LOGS, &words.split_whitespace().collect::<Vec<_>>(), b"5 1\n");
+        assert_eq!(output.status.code(), Some(1), "{words}");
+        assert!(output.stdout.is_empty(), "{output:?}");
+        let usage = "\nusage: log_from_text.py [--prices] CLASS STATIONS HOME [ID] < requests.txt > week.log\n";
+        assert!(String::from_utf8(output.stderr).unwrap().contains(usage), "{words}");
+    }
 }
 
 #[test]

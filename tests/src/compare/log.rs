@@ -2,8 +2,8 @@
 
 use super::{noise16, noise32, noise8, room, Met};
 use crate::calls::{Calls, Simple};
-use crate::log::{self, Header, Log, Request, LAST_SECOND, MOST_REQUESTS};
-use crate::prices::{PriceFile, Prices};
+use crate::log::{self, requests_of, Header, Log, Request, LAST_SECOND, MOST_REQUESTS};
+use crate::prices::{encode, PriceFile, Prices, Table, BUILT_IN, UNSOLD};
 use crate::random::{damaged_log, random_header, random_log, random_requests, random_table, Random};
 use crate::{refuse, Refusal};
 
@@ -188,60 +188,75 @@ pub fn writes<C: Calls>(seed: u64, times: usize) {
         let length = room(&mut random, 40 + 6 * seconds.len());
         met.count(&write::<C>(&mut random, table.file(), &header, &seconds, &servers, length));
     }
-    met.exactly(&[0, 3, 4, 5, 7, 11, 12, 13, 31], times as u64 / 1_000);
+    met.exactly(&[0, 3, 4, 5, 7, 11, 12, 13, 31, 43], times as u64 / 1_000);
 }
 
-/// What is written is read back, and what is read is written again.
+/// The bytes of a log read, and what was read written again: they are the same. Where the class is no longer sold the write is refused, and what it
+/// was lent is as it was.
+pub(super) fn round_trip<C: Calls>(table: &Table, log: &Log) -> Result<u64, Refusal> {
+    let (file, count) = (log.bytes(), log.requests.len());
+    let (mut seconds, mut servers, noise) = (vec![9; count], vec![9; count], vec![9; file.len()]);
+    let (header, read) = C::read(table.file(), &file, &mut seconds, &mut servers);
+    assert_eq!(read, Ok(count as u16));
+    assert_eq!(Log { header, requests: requests_of(&seconds, &servers) }, *log);
+    let mut out = noise.clone();
+    let written = C::write(table.file(), &header, &seconds, &servers, &mut out);
+    let unsold = table.unsold() == Some(header.class);
+    assert_eq!((written, out), if unsold { (refuse(43, 0), noise) } else { (Ok(file.len() as u64), file) });
+    written
+}
+
+/// Random logs, sold and not.
 pub fn round_trips<C: Calls>(seed: u64, times: usize) {
     let mut random = Random::new(seed);
+    let mut met = Met::default();
     for _ in 0..times {
         let table = random_table(&mut random);
         let log = random_log(&mut random, &table, 50);
-        let count = log.requests.len();
-        let mut file = noise8(&mut random, 40 + 6 * count);
-        assert_eq!(C::write(table.file(), &log.header, &log.seconds(), &log.servers(), &mut file), Ok(file.len() as u64));
-        let (mut seconds, mut servers) = (noise32(&mut random, count), noise16(&mut random, count));
-        let (header, read) = C::read(table.file(), &file, &mut seconds, &mut servers);
-        assert_eq!((header, read), (log.header, Ok(count as u16)));
-        assert_eq!((&seconds, &servers), (&log.seconds(), &log.servers()));
-        let mut again = noise8(&mut random, file.len());
-        assert_eq!(C::write(table.file(), &header, &seconds, &servers, &mut again), Ok(file.len() as u64));
-        assert_eq!(again, file);
+        met.count(&round_trip::<C>(&table, &log));
     }
+    met.exactly(&[0, 43], times as u64 / 30);
 }
 
-/// The largest logs, and one request more.
+/// The largest logs, and one request more: of a class that is sold, of the one that is not, and of the same in a price file.
 pub fn longest<C: Calls>() {
     let mut random = Random::new(103);
-    let mut met = Met::default();
+    let (mut reads, mut writes) = (Met::default(), Met::default());
     for count in [MOST_REQUESTS - 1, MOST_REQUESTS, MOST_REQUESTS + 1] {
-        let table = random_table(&mut random);
-        let header = random_header(&mut random, &table);
-        let requests = random_requests(&mut random, table.of(header.class), &header, count);
-        let log = Log { header, requests };
-        let file = log.bytes();
-        for length in [count - 1, count, count + 5] {
-            met.count(&read::<C>(&mut random, table.file(), &file, length, count));
-            met.count(&read::<C>(&mut random, table.file(), &file, count, length));
-            met.count(&write::<C>(&mut random, table.file(), &log.header, &log.seconds(), &log.servers(), 40 + 6 * length));
+        for (table, class) in [(Table::built_in(), 5), (Table::built_in(), UNSOLD), (Table::of_pairs(&BUILT_IN), UNSOLD)] {
+            let header = Header { class, ..random_header(&mut random, &table) };
+            let requests = random_requests(&mut random, table.of(class), &header, count);
+            let log = Log { header, requests };
+            let file = log.bytes();
+            for length in [count - 1, count, count + 5] {
+                reads.count(&read::<C>(&mut random, table.file(), &file, length, count));
+                reads.count(&read::<C>(&mut random, table.file(), &file, count, length));
+                writes.count(&write::<C>(&mut random, table.file(), &log.header, &log.seconds(), &log.servers(), 40 + 6 * length));
+            }
         }
     }
-    met.exactly(&[0, 7, 31], 6);
+    reads.exactly(&[0, 7, 31], 12);
+    writes.exactly(&[0, 7, 31, 43], 4);
 }
 
-/// Server counts, homes, servers and seconds about their bounds, read and written.
+/// Server counts, homes, servers and seconds about their bounds, read and written; class 7 is written with its table as a price file.
 pub fn bounds<C: Calls>() {
+    bounds_at::<C>(6, None);
+    bounds_at::<C>(UNSOLD, Some(&encode(&BUILT_IN)));
+}
+
+fn bounds_at<C: Calls>(class: u8, prices: PriceFile) {
     let mut random = Random::new(104);
     let mut met = Met::default();
     for server_count in [0, 1, 63, 64, 65, 255] {
         for home in [0, 62, 63, 64, 255] {
             for server in [0, 62, 63, 64, 255, 256, 0xffff] {
                 for second in [0, 1, LAST_SECOND - 1, LAST_SECOND, LAST_SECOND + 1, u32::MAX] {
-                    let header = Header { class: 7, server_count, home, id: [0xaa; 16] };
+                    let header = Header { class, server_count, home, id: [0xaa; 16] };
                     let requests = vec![Request { second: 1, server: 0 }, Request { second, server }];
                     let log = Log { header, requests };
                     met.count(&read::<C>(&mut random, None, &log.bytes(), 2, 2));
-                    met.count(&write::<C>(&mut random, None, &header, &log.seconds(), &log.servers(), 52));
+                    met.count(&write::<C>(&mut random, prices, &header, &log.seconds(), &log.servers(), 52));
                 }
             }
         }

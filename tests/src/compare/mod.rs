@@ -4,6 +4,7 @@
 //! compared whole after it, so that zeros beyond an answer and outputs left as they were are seen.
 
 pub mod checker;
+pub mod lifetime;
 pub mod log;
 pub mod online;
 pub mod planner;
@@ -132,5 +133,12 @@ mod tests {
         prices::random_files::<Fast>(25, 20_000);
         prices::every_class::<Fast>(26);
         prices::built_in_as_a_file::<Fast>(27, 2_000);
+    }
+
+    #[test]
+    fn fast_lifetime() {
+        lifetime::order::<Fast>();
+        lifetime::old_logs::<Fast>(28, 200);
+        lifetime::loaded::<Fast>(29, 40);
     }
 }

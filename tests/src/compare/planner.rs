@@ -109,7 +109,7 @@ pub fn damaged_logs<C: Calls>(seed: u64, times: usize) {
 }
 
 /// Both calls with room enough.
-fn answers<C: Calls>(prices: PriceFile, log: &Log) -> (u64, Vec<u8>, Vec<u32>, Vec<u64>) {
+pub(super) fn answers<C: Calls>(prices: PriceFile, log: &Log) -> (u64, Vec<u8>, Vec<u32>, Vec<u64>) {
     let file = log.bytes();
     let count = log.requests.len();
     let (mut marks, mut rows, mut costs) = (vec![9; count], vec![9; 8 * count], vec![9; count + 1]);

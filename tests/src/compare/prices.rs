@@ -4,11 +4,11 @@ use super::{checker, log, noise16, noise32, noise64, noise8, online, planner, ro
 use crate::calls::Calls;
 use crate::checker::flat;
 use crate::log::{Header, Log, Request};
-use crate::online::Cache;
+use crate::online::{Cache, ZEROS};
 use crate::planner::plan;
-use crate::prices::{encode, PriceFile, Table, BUILT_IN, HIGHEST, MOST_CLASSES};
+use crate::prices::{encode, PriceFile, Table, BUILT_IN, HIGHEST, MOST_CLASSES, UNSOLD};
 use crate::random::{damaged_log, damaged_prices, random_header, random_log, random_pair, random_prices, Random};
-use crate::Refusal;
+use crate::{refuse, Refusal};
 
 const READ: usize = 0;
 const WRITE: usize = 1;
@@ -220,25 +220,33 @@ pub fn every_class<C: Calls>(seed: u64) {
     mets[LEAST].exactly(&[0, 31], 50);
 }
 
-/// All that the calls give for an input, and their outputs, which have the same noise before.
-fn answers<C: Calls>(prices: PriceFile, input: &Input, rows: &[u32], seed: u64, lengths: [usize; 6]) -> impl PartialEq + std::fmt::Debug {
-    let Input { log, file } = input;
+/// All that the calls give for the bytes of a log, and their outputs, which have the same noise before.
+fn answers<C: Calls>(prices: PriceFile, file: &[u8], rows: &[u32], seed: u64, lengths: [usize; 5]) -> impl PartialEq + std::fmt::Debug {
     let random = &mut Random::new(seed);
-    let [seconds, servers, out, marks, numbers, costs] = lengths;
-    let (mut seconds, mut servers, mut out) = (noise32(random, seconds), noise16(random, servers), noise8(random, out));
+    let [seconds, servers, marks, numbers, costs] = lengths;
+    let (mut seconds, mut servers) = (noise32(random, seconds), noise16(random, servers));
     let (mut marks, mut numbers, mut costs) = (noise8(random, marks), noise32(random, numbers), noise64(random, costs));
     let read = C::read(prices, file, &mut seconds, &mut servers);
-    let written = C::write(prices, &log.header, &log.seconds(), &log.servers(), &mut out);
     let checked = C::check(prices, file, rows);
     let planned = C::plan(prices, file, &mut marks, &mut numbers);
     let least = C::least(prices, file, &mut costs);
-    let started = C::start(prices, log.header.class, log.header.server_count, log.header.home);
-    ((read, seconds, servers, written, out), (checked, planned, marks, numbers, least, costs), started)
+    ((read, seconds, servers), (checked, planned, marks, numbers, least, costs))
 }
 
-/// The built-in table written as a price file gives the same as no price file.
+/// What a new log and a new cache come to: the write and its output, which has some noise before, and the start.
+type Made = ((Result<u64, Refusal>, Vec<u8>), (Cache, Result<(), Refusal>));
+
+fn made<C: Calls>(prices: PriceFile, log: &Log, noise: &[u8]) -> Made {
+    let mut out = noise.to_vec();
+    let written = C::write(prices, &log.header, &log.seconds(), &log.servers(), &mut out);
+    let started = C::start(prices, log.header.class, log.header.server_count, log.header.home);
+    ((written, out), started)
+}
+
+/// The built-in table written as a price file gives the same as no price file, but for writes and starts of the class that is no longer sold.
 pub fn built_in_as_a_file<C: Calls>(seed: u64, times: usize) {
     let mut random = Random::new(seed);
+    let mut mets: [Met; 2] = Default::default();
     let (table, file) = (Table::built_in(), encode(&BUILT_IN));
     for _ in 0..times {
         let mut input = Input::of(random_log(&mut random, &table, 30));
@@ -249,9 +257,20 @@ pub fn built_in_as_a_file<C: Calls>(seed: u64, times: usize) {
         }
         let rows = planned(None, &input.file);
         let count = input.log.requests.len();
-        let lengths = [count, count, 40 + 6 * count, count, rows.len(), count + 1].map(|needed| room(&mut random, needed));
-        let noise = random.word();
-        let without = answers::<C>(None, &input, &rows, noise, lengths);
-        assert_eq!(answers::<C>(Some(&file), &input, &rows, noise, lengths), without, "{:?}", input.file);
+        let lengths = [count, count, count, rows.len(), count + 1].map(|needed| room(&mut random, needed));
+        let seed = random.word();
+        let without = answers::<C>(None, &input.file, &rows, seed, lengths);
+        assert_eq!(answers::<C>(Some(&file), &input.file, &rows, seed, lengths), without, "{:?}", input.file);
+        let length = room(&mut random, 40 + 6 * count);
+        let noise = noise8(&mut random, length);
+        let (without, with) = (made::<C>(None, &input.log, &noise), made::<C>(Some(&file), &input.log, &noise));
+        for (met, (written, started)) in mets.iter_mut().zip([&without, &with]) {
+            met.count(&written.0);
+            met.count(&started.1);
+        }
+        let unsold = ((refuse(43, 0), noise), (ZEROS, refuse(43, 0)));
+        assert_eq!(without, if input.log.header.class == UNSOLD { unsold } else { with }, "{:?}", input.log);
     }
+    mets[0].exactly(&[0, 3, 11, 31, 43], times as u64 / 100);
+    mets[1].exactly(&[0, 3, 11, 31], times as u64 / 100);
 }

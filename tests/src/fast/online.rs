@@ -8,7 +8,7 @@ use crate::{refuse, Refusal};
 
 pub fn start(prices: PriceFile, class: u8, server_count: u8, home: u8) -> Result<Cache, Refusal> {
     let table = table(prices)?;
-    check_setup(table.classes(), class, server_count, home)?;
+    check_setup(table.classes(), table.unsold(), class, server_count, home)?;
     Ok(Cache::fresh(table.of(class), server_count, home))
 }
 

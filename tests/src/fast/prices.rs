@@ -1,6 +1,6 @@
 //! A price file judged in one pass, without memory of its own; a class's prices are taken from where they are.
 
-use crate::prices::{PriceFile, Prices, HIGHEST, MOST_CLASSES};
+use crate::prices::{PriceFile, Prices, HIGHEST, MOST_CLASSES, UNSOLD};
 use crate::{refuse, Refusal};
 
 /// The built-in table, or the prices of a file that was judged.
@@ -42,6 +42,14 @@ impl Table<'_> {
         match self {
             Table::BuiltIn => 8,
             Table::Loaded(prices) => prices.len() / 8,
+        }
+    }
+
+    /// The class that is no longer sold: a price file has none.
+    pub(super) fn unsold(self) -> Option<u8> {
+        match self {
+            Table::BuiltIn => Some(UNSOLD),
+            Table::Loaded(_) => None,
         }
     }
 
