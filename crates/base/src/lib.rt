@@ -4,7 +4,7 @@ pub mod refusals;
 pub mod sets;
 pub mod widths;
 
-// A refusal: its number in 01's two lists, and its place (0 unless 01 names one).
+// A refusal: its number in the lists of 01 and 02, and its place (0 unless they name one).
 pub struct Refusal {
     pub number: u8,
     pub place: u64,
