@@ -9,7 +9,7 @@ use lib.Dec.{eqb}
 use lib.ListN.{length}
 use borrow.Author.Tests.{lt-leb, eqb-true, eq-eqb}
 use Rattle.base.specs.Choice.{not-both, true-or-false}
-use Rattle.base.specs.Refusals.{Condition, refuse, reason, first, otherwise, short, each}
+use Rattle.base.specs.Refusals.{Condition, refuse, first, otherwise, short, each}
 use Rattle.base.specs.RefusalLaws.{first-met, first-failed, first-append}
 use Rattle.base.specs.declared.Refusal.{Refusal}
 use Rattle.base.specs.declared.Verdict.{Verdict}

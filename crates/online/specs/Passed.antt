@@ -14,7 +14,7 @@ use Rattle.base.specs.declared.Verdict.the-variants.{Passed}
 use Rattle.prices.specs.Prices.{prices-of, In-range}
 use Rattle.prices.specs.PriceLaws.{Priced}
 use Rattle.prices.specs.Tariff.{Tariff}
-use Rattle.prices.specs.Offer.{Offer, Sold}
+use Rattle.prices.specs.Offer.{Offer}
 use Rattle.log.specs.declared.Setup.{Setup}
 use Rattle.log.specs.Ranges.{Allowed}
 use Rattle.log.specs.AcceptedLaws.{setup-allowed, offered-allowed}
