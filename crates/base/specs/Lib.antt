@@ -11,6 +11,7 @@ pub mod Lent
 pub mod ChoiceLaws
 pub mod BytesLaws
 pub mod RefusalLaws
+pub mod NumberLaws
 pub mod SetLaws
 pub mod LowestLaws
 pub mod NearestLaws

@@ -1,6 +1,7 @@
 -- Refusals: a call's conditions in 01's order, and the first that holds. Assumes nothing.
 use mathlib.Core.Bool.{Bool, true, false}
 use mathlib.Core.List.{List, [], _∷_, _++_}
+use mathlib.Core.Logic.{_≢_}
 use mathlib.Core.Path.{_≡_}
 use Prim.Native.Nat.{ℕ, zero, suc, _<_}
 use lib.Dec.{ltb}
@@ -43,6 +44,10 @@ from v (c ∷ cs) = from (or-else v c) cs
 abbrev pub otherwise : Verdict → Verdict → Verdict
 otherwise Passed w = w
 otherwise (Refused r) w = Refused r
+
+-- a verdict does not refuse with a number
+abbrev pub Never : ℕ → Verdict → Type 0
+Never n v = (r : Refusal) → v ≡ Refused r → r .number ≢ n
 
 -- 31: a lent output of a given length is too short for what is needed
 abbrev pub short : ℕ → ℕ → Condition

@@ -96,7 +96,7 @@ fn altered(log: [u8; 52], at: usize, b: u8) -> [u8; 52] {
 // The same log with one byte changed, and its sum made to fit.
 fn changed(log: [u8; 52], at: usize, b: u8) -> [u8; 52] {
     let mut next = altered(log, at, b);
-    let sum = log::sum(&next);
+    let sum = checksum::sum(&next);
     base::bytes::copy(&mut next, 20, &base::bytes::le_bytes32(sum));
     next
 }

@@ -3,7 +3,7 @@ ghost use mathlib.Core.Path.{_≡_};
 ghost use lib.ListN.{length};
 ghost use Rattle.prices.specs.Tariff.{built-in, price-file};
 ghost use Rattle.prices.specs.Offer.{built-in-offer, file-offer};
-ghost use Rattle.log.specs.Sum.{sum-of};
+ghost use Rattle.checksum.specs.Sum.{sum-of};
 ghost use Rattle.log.specs.Contents.{contents};
 ghost use Rattle.log.specs.Answers.{read-verdict, decoded, seconds-left, servers-left, write-verdict, written, log-left};
 ghost use Rattle.exports.specs.Answers.{of-read, of-write, read-answer};
@@ -26,7 +26,7 @@ pub struct ReadAnswer {
 pub extern "C" fn caching_sum(log: &[u8]) -> u32
     ensures { λ r. ⌜ r ≡ sum-of (now (log .entry)) ⌝ }
 {
-    log::sum(log)
+    checksum::sum(log)
 }
 
 fn of_read(outcome: ReadOutcome) -> Answer

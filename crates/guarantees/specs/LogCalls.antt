@@ -17,7 +17,7 @@ use Rattle.log.specs.declared.Decoded.{Decoded}
 use Rattle.log.specs.declared.ReadOutcome.the-variants as read
 use Rattle.log.specs.declared.Written.the-variants as write
 use Rattle.log.specs.Fields.{class-of, header-of, request-count, length-for, seconds-of, servers-of}
-use Rattle.log.specs.Conditions.{Accepted}
+use Rattle.log.specs.Conditions.{no-longer-sold, Accepted}
 use Rattle.log.specs.Contents.{Contents, contents, decode, encode}
 use Rattle.log.specs.Ranges.{Proper}
 use Rattle.log.specs.Answers.{read-verdict, decoded, seconds-left, servers-left, write-verdict, written, log-left}
@@ -25,7 +25,7 @@ use Rattle.log.specs.AcceptedLaws.{accepted-judged, accepted-class, accepted-so
 use Rattle.log.specs.EncodeLaws.{encode-length, encode-count, encode-header, encode-seconds, encode-servers}
 use Rattle.log.specs.RoundTrip.{encode-accepted, decode-proper, encode-decode}
 use Rattle.log.specs.AnswerLaws.{read-passed, read-passes, write-passed, write-passes}
-use Rattle.guarantees.specs.EndedClass.{no-longer-sold, write-refused}
+use Rattle.log.specs.EndedLaws.{write-refused}
 
 -- the reader's answer where a log is accepted: this header and so many requests
 abbrev pub requests-read : Header → ℕ → Decoded

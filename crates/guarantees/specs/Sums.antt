@@ -3,8 +3,8 @@ use mathlib.Core.List.{List, _∷_}
 use mathlib.Core.Path.{_≡_}
 use Prim.Native.Nat.{ℕ, _+_, _*_, _%_, _^_}
 use lib.ListN.{take, drop}
-use Rattle.log.specs.Sum.{sum-from, sum-of}
-use Rattle.log.specs.SumLaws.{four-steps}
+use Rattle.checksum.specs.Sum.{sum-from, sum-of}
+use Rattle.checksum.specs.SumLaws.{four-steps}
 
 -- bytes 20 to 23 have no part in it, whatever the length: alike before and after them, two inputs have one sum
 pub passed-over : (log other : List ℕ) → take 20 log ≡ take 20 other → drop 24 log ≡ drop 24 other → sum-of log ≡ sum-of other

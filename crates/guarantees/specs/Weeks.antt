@@ -8,8 +8,8 @@ use Rattle.base.specs.Refusals.{first, each}
 use Rattle.base.specs.Sets.{has, put, lowest}
 use Rattle.base.specs.Nearest.{distance, none-nearer, nearest}
 use Rattle.prices.specs.Prices.{classes, prices-of, outside, window}
+use Rattle.checksum.specs.Sum.{sum-from, sum-of}
 use Rattle.log.specs.Fields.{version, class-of, server-count, home-of, request-count, requests-offset, id-offset, total-length, written-sum, length-for, seconds-of, servers-of}
-use Rattle.log.specs.Sum.{sum-from, sum-of}
 use Rattle.log.specs.Conditions.{setup-conditions, offered-conditions, header-conditions, before, request-conditions, log-conditions, verdict-of}
 use Rattle.log.specs.Contents.{head, request-bytes, requests-bytes, body, encode}
 use Rattle.model.specs.Sums.{sum, total}

@@ -14,9 +14,9 @@ use Rattle.base.specs.Lists.{build-at}
 use Rattle.prices.specs.declared.Prices.{Prices}
 use Rattle.prices.specs.Tariff.{tariff}
 use Rattle.prices.specs.Offer.{Offer}
+use Rattle.checksum.specs.Sum.{sum-of}
 use Rattle.log.specs.declared.Setup.{Setup}
 use Rattle.log.specs.Fields.{server-count, request-count, seconds-of, servers-of, written-sum}
-use Rattle.log.specs.Sum.{sum-of}
 use Rattle.log.specs.Conditions.{setup-conditions, offered-conditions, form-conditions, header-conditions, before, request-check, request-conditions, log-conditions, verdict-of}
 
 -- a test that fails adds nothing

@@ -7,16 +7,17 @@ use lib.Dec.{leb, ltb, eqb}
 use lib.ListN.{getD, length}
 use Rattle.base.specs.Choice.{either}
 use Rattle.base.specs.Refusals.{Condition, refuse, first, otherwise, each}
+use Rattle.base.specs.declared.Refusal.{Refusal}
 use Rattle.base.specs.declared.Verdict.{Verdict}
 use Rattle.base.specs.declared.Verdict.the-variants.{Passed}
 use Rattle.base.specs.Bytes.{byte}
 use Rattle.prices.specs.declared.Prices.{Prices}
 use Rattle.prices.specs.Tariff.{Tariff}
 use Rattle.prices.specs.Offer.{Offer}
+use Rattle.checksum.specs.Sum.{sum-of}
 use Rattle.log.specs.declared.Setup.{Setup}
 use Rattle.log.specs.Sizes.{most-requests}
 use Rattle.log.specs.Fields.{version, server-count, setup-of, request-count, requests-offset, id-offset, total-length, written-sum, length-for, seconds-of, servers-of}
-use Rattle.log.specs.Sum.{sum-of}
 
 -- 3 asks for a class of the table
 abbrev pub class-condition : List Prices → Setup → Condition
@@ -32,6 +33,10 @@ servers-conditions s =
 -- of a log that there is: 3 to 5
 unfoldable pub setup-conditions : List Prices → Setup → List Condition
 setup-conditions table s = class-condition table s ∷ servers-conditions s
+
+-- 43, whose place is 0
+abbrev pub no-longer-sold : Refusal
+no-longer-sold = record { number = 43; place = 0 }
 
 -- of what is to be written or started: 43, a class that is no longer sold, right after 3
 unfoldable pub offered-conditions : Offer → Setup → List Condition

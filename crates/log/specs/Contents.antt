@@ -8,11 +8,11 @@ use Rattle.base.specs.Choice.{either}
 use Rattle.base.specs.Refusals.{Condition, refuse, each}
 use Rattle.base.specs.Bytes.{bytes}
 use Rattle.prices.specs.Offer.{Offer}
+use Rattle.checksum.specs.Sum.{sum-from}
 use Rattle.log.specs.declared.Setup.{Setup}
 use Rattle.log.specs.declared.Header.{Header}
 use Rattle.log.specs.Sizes.{most-requests}
 use Rattle.log.specs.Fields.{header-of, seconds-of, servers-of, length-for}
-use Rattle.log.specs.Sum.{sum-from}
 use Rattle.log.specs.Conditions.{offered-conditions, request-conditions}
 
 -- a header, and the seconds and servers of its requests

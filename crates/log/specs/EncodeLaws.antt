@@ -10,8 +10,8 @@ use Rattle.base.specs.Choice.{le-or-lt}
 use Rattle.base.specs.Bytes.{byte, le16, le32, bytes}
 use Rattle.base.specs.BytesLaws.{le16-bytes, le32-bytes, le16-behind, le32-behind}
 use Rattle.base.specs.Lists.{build, build-same, build-read}
+use Rattle.checksum.specs.Sum.{sum-from, sum-of}
 use Rattle.log.specs.Fields.{version, class-of, server-count, home-of, request-count, requests-offset, id-offset, total-length, written-sum, id-of, length-for, seconds-of, servers-of, header-of}
-use Rattle.log.specs.Sum.{sum-from, sum-of}
 use Rattle.log.specs.Contents.{Contents, head, request-bytes, requests-bytes, body, encode}
 use Rattle.log.specs.Ranges.{Proper, Sixteen}
 

@@ -2,13 +2,11 @@
 -- What a reader believes: what 01's 'The log' and its conditions 1 to 13 say, and what the calls answer.
 pub mod Sizes
 pub mod Fields
-pub mod Sum
 pub mod Conditions
 pub mod Contents
 pub mod Ranges
 pub mod Answers
 -- What is proved of it.
-pub mod SumLaws
 pub mod ConditionLaws
 pub mod ContentsLaws
 pub mod AcceptedLaws
@@ -16,4 +14,5 @@ pub mod EncodeLaws
 pub mod RoundTrip
 pub mod Cutting
 pub mod AnswerLaws
+pub mod EndedLaws
 pub mod WriteLaws

@@ -7,10 +7,10 @@ use Rattle.base.specs.declared.Verdict.the-variants.{Passed}
 use Rattle.base.specs.Bytes.{byte}
 use Rattle.base.specs.Refusals.{first}
 use Rattle.prices.specs.Offer.{Offer}
+use Rattle.checksum.specs.Sum.{sum-of}
 use Rattle.log.specs.declared.Setup.{Setup}
 use Rattle.log.specs.Sizes.{most-requests}
 use Rattle.log.specs.Fields.{version, server-count, setup-of, request-count, requests-offset, id-offset, total-length, written-sum, length-for, seconds-of, servers-of}
-use Rattle.log.specs.Sum.{sum-of}
 use Rattle.log.specs.Conditions.{before}
 use Rattle.log.specs.Contents.{Contents, setup-in, contents-conditions}
 

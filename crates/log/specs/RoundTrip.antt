@@ -10,9 +10,9 @@ use Rattle.base.specs.declared.Verdict.the-variants.{Passed}
 use Rattle.base.specs.BytesLaws.{bytes-small, bytes-le16, bytes-le32}
 use Rattle.base.specs.Lists.{build-same, build-read}
 use Rattle.prices.specs.Tariff.{Tariff}
+use Rattle.checksum.specs.Sum.{sum-of}
 use Rattle.log.specs.declared.Header.{Header}
 use Rattle.log.specs.Fields.{version, class-of, server-count, home-of, request-count, requests-offset, id-offset, total-length, written-sum, id-of, length-for, seconds-of, servers-of, header-of}
-use Rattle.log.specs.Sum.{sum-of}
 use Rattle.log.specs.Conditions.{Accepted}
 use Rattle.log.specs.Contents.{Contents, decode, head, request-bytes, requests-bytes, body, setup-in, encode}
 use Rattle.log.specs.Ranges.{Allowed, Sound, Proper, Sixteen}

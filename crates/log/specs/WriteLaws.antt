@@ -10,7 +10,7 @@ use Rattle.base.specs.Bytes.{bytes}
 use Rattle.base.specs.BytesLaws.{bytes-length}
 use Rattle.base.specs.Lent.{lent}
 use Rattle.base.specs.Lists.{splice, splice-fits, cleared}
-use Rattle.log.specs.Sum.{sum-from, sum-of}
+use Rattle.checksum.specs.Sum.{sum-from, sum-of}
 use Rattle.log.specs.Contents.{request-bytes, requests-bytes}
 use Rattle.log.specs.EncodeLaws.{requests-length}
 

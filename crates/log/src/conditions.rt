@@ -9,15 +9,14 @@ ghost use Rattle.base.specs.Refusals.{first, otherwise, each, from};
 ghost use Rattle.prices.specs.PriceFile.{table-in};
 ghost use Rattle.prices.specs.Tariff.{tariff};
 ghost use Rattle.prices.specs.Offer.{offer};
+ghost use Rattle.checksum.specs.Sum.{sum-of};
 ghost use Rattle.log.specs.Sizes.{most-requests};
 ghost use Rattle.log.specs.Fields.{server-count, request-count, requests-offset, id-offset, total-length, written-sum, length-for, seconds-of, servers-of};
-ghost use Rattle.log.specs.Sum.{sum-of};
 ghost use Rattle.log.specs.Conditions.{setup-conditions, offered-conditions, form-conditions, request-check, request-conditions, verdict-of};
 ghost use Rattle.log.specs.Contents.{contents, contents-conditions};
 use crate::Header;
 use crate::MOST_REQUESTS;
 use crate::Setup;
-use crate::checksum::sum;
 use crate::requests::second_at;
 use crate::requests::server_at;
 use base::Refusal;
@@ -31,6 +30,7 @@ use base::widths::size_from_u32;
 use base::widths::u16_from_u8;
 use base::widths::u32_from_u16;
 use base::widths::u64_from_size;
+use checksum::sum;
 use prices::class_count;
 
 // The most requests, as the header has them.

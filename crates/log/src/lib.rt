@@ -1,12 +1,10 @@
-// The log format of 01's 'The log': read, write, sum.
-mod checksum;
+// The log format of 01's 'The log': read, write.
 mod conditions;
 mod reader;
 mod requests;
 mod writer;
 
 use base::Refusal;
-pub use checksum::sum;
 pub use conditions::offered_fault;
 pub use conditions::setup_fault;
 pub use conditions::verdict;

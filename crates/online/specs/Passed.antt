@@ -1,23 +1,27 @@
 -- What a start, a scan and a close have that are not refused.
-use mathlib.Core.Bool.{false}
+use mathlib.Core.Bool.{true, false}
 use mathlib.Core.Logic.{_≢_, _↔_}
-use mathlib.Core.Path.{_≡_}
+use mathlib.Core.Path.{_≡_, ap, _∙_}
 use native.Mathlib.Omega.{arith}
 use Prim.Native.Nat.{ℕ, _≤_, _<_}
 use lib.Dec.{ltb, eqb}
+use lib.ListN.{length}
 use borrow.Author.Tests.{leb-false, ltb-false, eqb-false}
 use Rattle.base.specs.ChoiceLaws.{either-false}
-use Rattle.base.specs.Refusals.{otherwise}
+use Rattle.base.specs.Refusals.{first, otherwise, Never}
+use Rattle.base.specs.NumberLaws.{otherwise-never}
 use Rattle.base.specs.RefusalLaws.{first-passed, otherwise-passed}
 use Rattle.base.specs.declared.Verdict.{Verdict}
-use Rattle.base.specs.declared.Verdict.the-variants.{Passed}
+use Rattle.base.specs.declared.Verdict.the-variants.{Passed, Refused}
 use Rattle.prices.specs.Prices.{prices-of, In-range}
 use Rattle.prices.specs.PriceLaws.{Priced}
 use Rattle.prices.specs.Tariff.{Tariff}
 use Rattle.prices.specs.Offer.{Offer}
 use Rattle.log.specs.declared.Setup.{Setup}
 use Rattle.log.specs.Ranges.{Allowed}
+use Rattle.log.specs.Conditions.{no-longer-sold, offered-conditions}
 use Rattle.log.specs.AcceptedLaws.{setup-allowed, offered-allowed}
+use Rattle.log.specs.EndedLaws.{offered-refused, offered-without, setup-without}
 use Rattle.online.specs.declared.Cache.{Cache}
 use Rattle.online.specs.Conditions.{scan-conditions, running-conditions, close-conditions}
 use Rattle.online.specs.Answers.{start-verdict, log-start-verdict, scan-verdict, running-verdict, close-verdict}
@@ -51,6 +55,21 @@ start-passed o s = (to, from)
         let (j, f) = otherwise-passed (o .tariff .judged) _ e in
         let (l, a) = setup-allowed (o .tariff .table) s .0 f in
         passes (o .tariff .judged) _ j (offered-allowed o s .1 (record { listed = l; unended = going }, a))
+
+-- a start with a class that has ended is refused with 43, whatever else it is given
+pub start-refused : (o : Offer) (s : Setup) → o .tariff .judged ≡ Passed → s .«class» < length (o .tariff .table) → o .ended (s .«class») ≡ true
+    → start-verdict o s ≡ Refused no-longer-sold
+unfolding start-verdict
+start-refused o s j l e = ap (λ (v : Verdict). otherwise v (first (offered-conditions o s))) j ∙ offered-refused o s l e
+
+-- no other is, nor one for a log
+pub start-never : (o : Offer) (s : Setup) → Never 43 (o .tariff .judged) → o .ended (s .«class») ≡ false → Never 43 (start-verdict o s)
+unfolding start-verdict
+start-never o s j e = otherwise-never 43 (o .tariff .judged) _ j (offered-without o s e)
+
+pub log-start-never : (t : Tariff) (s : Setup) → Never 43 (t .judged) → Never 43 (log-start-verdict t s)
+unfolding log-start-verdict
+log-start-never t s j = otherwise-never 43 (t .judged) _ j (setup-without (t .table) s)
 
 -- state, second and server of a scan that is not refused
 pub record Fit (c : Cache) (second server : ℕ) : Type 0 where

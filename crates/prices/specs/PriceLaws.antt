@@ -10,8 +10,9 @@ use lib.ListN.{length, List·getD-eq-default}
 use borrow.Author.Tests.{ltb-false, eqb-false, le-ltb, ne-eqb, not-true}
 use Rattle.base.specs.Choice.{either}
 use Rattle.base.specs.ChoiceLaws.{either-false, neither-of}
-use Rattle.base.specs.Refusals.{each}
+use Rattle.base.specs.Refusals.{each, Never}
 use Rattle.base.specs.RefusalLaws.{first-passed, each-passed}
+use Rattle.base.specs.NumberLaws.{Without, empty, other, of-each, first-never}
 use Rattle.base.specs.declared.Verdict.the-variants.{Passed}
 use Rattle.base.specs.Lists.{build-length, build-at, every, every-at}
 use Rattle.prices.specs.declared.Prices.{Prices}
@@ -86,6 +87,15 @@ file-priced bytes e class l =
 pub given-priced : (t : Tariff) → Given t → Priced t
 given-priced t none e = classes-ranged
 given-priced t (file bytes) e = file-priced bytes e
+
+-- a price file is answered no number but 37 and 38, and where none is given nothing is
+file-without : (n : ℕ) → 37 ≢ n → 38 ≢ n → (bytes : List ℕ) → Without n (file-conditions bytes)
+unfolding file-conditions pair-condition
+file-without n f p bytes = other f (of-each (pair-condition bytes) (λ class. other p empty) (class-count bytes))
+
+pub judged-never : (n : ℕ) → 37 ≢ n → 38 ≢ n → (t : Tariff) → Given t → Never n (t .judged)
+judged-never n f p t none r e = absurd (let z : _≡_ {A = ℕ} 0 1 = cc in omega arith)
+judged-never n f p t (file bytes) r e = first-never n (file-conditions bytes) (file-without n f p bytes) r e
 
 -- what is sold by each is priced by it
 pub offer-tariff : (t : Tariff) (g : Given t) → offer-of g .tariff ≡ t

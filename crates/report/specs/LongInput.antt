@@ -21,9 +21,9 @@ use Rattle.prices.specs.declared.Prices.{Prices}
 use Rattle.prices.specs.PriceFile.{price-room}
 use Rattle.prices.specs.FileLaws as files
 use Rattle.prices.specs.Tariff.{Tariff, price-file}
+use Rattle.checksum.specs.Sum.{sum-of}
 use Rattle.log.specs.Sizes.{most-requests, log-room}
 use Rattle.log.specs.Fields.{version, class-of, server-count, home-of, setup-of, request-count, requests-offset, id-offset, total-length, written-sum, length-for}
-use Rattle.log.specs.Sum.{sum-of}
 use Rattle.log.specs.Conditions.{setup-conditions, header-conditions, log-conditions, verdict-of}
 use Rattle.log.specs.ConditionLaws.{log-requests}
 use Rattle.report.specs.Output.{output-by, output, limit, price-limit}

@@ -1,11 +1,11 @@
--- `log::checksum::times` meets its contract. Assumes nothing.
+-- `checksum::times` meets its contract. Assumes nothing.
 use borrow.Author.Needs.{needs}
 use mathlib.Core.Path.{refl}
 use Prim.Native.Nat.{ℕ, _*_, _^_, _<_, _≤_}
 use native.Mathlib.Omega.{arith}
 use native.Mathlib.Nat.{mul-le-mul}
-use Rattle.log.proofs.checksum.times.Statement.{statement}
-use Rattle.log.proofs.checksum.times.Tie as tie
+use Rattle.checksum.proofs.times.Statement.{statement}
+use Rattle.checksum.proofs.times.Tie as tie
 
 -- two numbers of 32 bits have a product of 64
 product-fits : (k x : ℕ) → k < 2 ^ 32 → x < 2 ^ 32 → k * x < 2 ^ 64

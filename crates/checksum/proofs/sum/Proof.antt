@@ -1,14 +1,14 @@
--- `log::checksum::sum` meets its contract. Assumes nothing.
+-- `checksum::sum` meets its contract. Assumes nothing.
 use borrow.Author.Needs.{needs}
 use mathlib.Core.Path.{_≡_, sym, _∙_}
 use native.Mathlib.Omega.{arith}
 use Prim.Native.Nat.{_-_}
 use lib.ListN.{length, take, drop, length-drop}
 use lib.Seq.{length-take-le, take-all}
-use Rattle.log.specs.Sum.{sum-from}
-use Rattle.log.specs.SumLaws.{sum-parts, sum-head, sum-short}
-use Rattle.log.proofs.checksum.sum.Statement.{statement}
-use Rattle.log.proofs.checksum.sum.Tie as tie
+use Rattle.checksum.specs.Sum.{sum-from}
+use Rattle.checksum.specs.SumLaws.{sum-parts, sum-head, sum-short}
+use Rattle.checksum.proofs.sum.Statement.{statement}
+use Rattle.checksum.proofs.sum.Tie as tie
 
 sum-from-requires : tie.Need-sum-from-requires
 sum-from-requires c κs = search needs

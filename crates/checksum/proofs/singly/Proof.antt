@@ -1,4 +1,4 @@
--- `log::checksum::singly` meets its contract. Assumes nothing.
+-- `checksum::singly` meets its contract. Assumes nothing.
 use borrow.Author.Needs.{needs}
 use mathlib.Core.Path.{_≡_}
 use Prim.Native.Nat.{_≤_, _-_}
@@ -6,9 +6,9 @@ use native.Mathlib.Numerals.{add-one}
 use native.Mathlib.Omega.{arith}
 use lib.ListN.{length, drop}
 use lib.Seq.{drop-cons, drop-length}
-use Rattle.log.specs.Sum.{sum-from}
-use Rattle.log.proofs.checksum.singly.Statement.{statement}
-use Rattle.log.proofs.checksum.singly.Tie as tie
+use Rattle.checksum.specs.Sum.{sum-from}
+use Rattle.checksum.proofs.singly.Statement.{statement}
+use Rattle.checksum.proofs.singly.Tie as tie
 
 abbrev Inv-loop : tie.InvT-loop
 Inv-loop start bytes s₀ i₀ s i = (i ≤ length bytes) × (sum-from s (drop i bytes) ≡ sum-from start bytes)

@@ -1,4 +1,4 @@
--- `log::checksum::by_fours` meets its contract. Assumes nothing.
+-- `checksum::by_fours` meets its contract. Assumes nothing.
 use borrow.Author.Needs.{needs}
 use mathlib.Core.Path.{_≡_}
 use Prim.Native.Nat.{_+_, _-_, _%_, _≤_}
@@ -6,10 +6,10 @@ use native.Mathlib.Numerals.{add-one}
 use native.Mathlib.Omega.{arith}
 use lib.ListN.{length, drop}
 use lib.Seq.{drop-cons, drop-length}
-use Rattle.log.specs.Sum.{sum-from}
-use Rattle.log.specs.SumLaws.{four-on}
-use Rattle.log.proofs.checksum.by_fours.Statement.{statement}
-use Rattle.log.proofs.checksum.by_fours.Tie as tie
+use Rattle.checksum.specs.Sum.{sum-from}
+use Rattle.checksum.specs.SumLaws.{four-on}
+use Rattle.checksum.proofs.by_fours.Statement.{statement}
+use Rattle.checksum.proofs.by_fours.Tie as tie
 
 abbrev Inv-loop : tie.InvT-loop
 Inv-loop start bytes s₀ i₀ s i = (i ≤ length bytes) × ((length bytes - i) % 4 ≡ 0) × (sum-from s (drop i bytes) ≡ sum-from start bytes)

@@ -2,7 +2,7 @@
 ghost use mathlib.Core.Path.{_≡_};
 ghost use Prim.Native.Nat.{_+_, _*_, _%_, _^_};
 ghost use lib.ListN.{length};
-ghost use Rattle.log.specs.Sum.{sum-from, sum-of};
+ghost use Rattle.checksum.specs.Sum.{sum-from, sum-of};
 use base::widths::u32_from_u8;
 use base::widths::u64_from_u32;
 use std::num::wrapping_add_u32;

@@ -6,7 +6,7 @@ use native.Mathlib.Omega.{arith}
 use native.Mathlib.Nat.{add-mul-mod-self-right}
 use lib.ListN.{length, getD, take, drop, take-append-drop, drop-of-length-le}
 use lib.Seq.{take-all, drop-cons}
-use Rattle.log.specs.Sum.{sum-from, sum-of}
+use Rattle.checksum.specs.Sum.{sum-from, sum-of}
 
 -- the sum goes on from what it is after the first part
 pub sum-from-append : (s : ℕ) (a b : List ℕ) → sum-from s (a ++ b) ≡ sum-from (sum-from s a) b

@@ -1,4 +1,4 @@
--- `log::checksum::sum_from` meets its contract. Assumes nothing.
+-- `checksum::sum_from` meets its contract. Assumes nothing.
 use borrow.Author.Needs.{needs}
 use mathlib.Core.Path.{_≡_, sym, _∙_}
 use native.Mathlib.Nat.{sub-zero}
@@ -6,10 +6,10 @@ use native.Mathlib.Omega.{arith}
 use Prim.Native.Nat.{_-_, _%_}
 use lib.ListN.{length, take, drop, length-drop}
 use lib.Seq.{take-all}
-use Rattle.log.specs.Sum.{sum-from}
-use Rattle.log.specs.SumLaws.{sum-cut}
-use Rattle.log.proofs.checksum.sum_from.Statement.{statement}
-use Rattle.log.proofs.checksum.sum_from.Tie as tie
+use Rattle.checksum.specs.Sum.{sum-from}
+use Rattle.checksum.specs.SumLaws.{sum-cut}
+use Rattle.checksum.proofs.sum_from.Statement.{statement}
+use Rattle.checksum.proofs.sum_from.Tie as tie
 
 sub-whole : tie.Need-sub-whole
 sub-whole c = search needs

@@ -1,8 +1,8 @@
--- `log::checksum::group` meets its contract. Assumes nothing.
+-- `checksum::group` meets its contract. Assumes nothing.
 use borrow.Author.Needs.{needs}
 use mathlib.Core.Path.{refl}
-use Rattle.log.proofs.checksum.group.Statement.{statement}
-use Rattle.log.proofs.checksum.group.Tie as tie
+use Rattle.checksum.proofs.group.Statement.{statement}
+use Rattle.checksum.proofs.group.Tie as tie
 
 u32-from-u8-requires : tie.Need-u32-from-u8-requires
 u32-from-u8-requires c κs = search needs
