@@ -101,7 +101,7 @@ impl Cache {
     pub fn start_for_log(v: Verdict, prices: &[u8], setup: Setup) -> Started
         ensures { λ r. ⌜ r ≡ started-for-log (tariff v (table-in (now (prices .entry)))) setup ⌝ }
     {
-        let v = setup_fault(v, prices, setup);
-        given(v, of_class(prices, setup.class), setup)
+        let fault = setup_fault(v, prices, setup);
+        given(fault, of_class(prices, setup.class), setup)
     }
 }
