@@ -5,6 +5,10 @@
  * refusals. A caller without a price file uses the other names, for which the built-in table of eight classes holds. Of these class 7 is no longer
  * sold: caching_write and caching_start refuse it with 43, right after 3, and every other call takes its logs. With a price file there is no 43.
  *
+ * A cache serves one file: its state carries the id that its start was given, and each scan brings the id of the file that was asked for. A scan of
+ * another file is refused with 39: the gate read another pass, the state is as it was, and nothing is charged. 39 comes after 11, 12, 32 and 33, and
+ * before 34 and 35.
+ *
  * What the caller has to see to; of what is handed in nothing else is asked:
  * - each pointer has as many elements behind it as the length after it says; with length 0 it may be null;
  * - an output that is lent overlaps nothing else that the call is given: where it does, a wrong answer can come back as accepted;
@@ -34,11 +38,17 @@ struct caching_answer {
     uint64_t more;
 };
 
+/* the id of a file: any sixteen bytes */
+struct caching_id {
+    uint8_t bytes[16];
+};
+
+/* what a log says of its file, and a start is given */
 struct caching_header {
     uint8_t file_class;
     uint8_t server_count;
     uint8_t home;
-    uint8_t id[16];
+    struct caching_id id;
 };
 
 struct caching_read_answer {
@@ -56,6 +66,7 @@ struct caching_prices {
  * any table */
 struct caching_cache {
     struct caching_prices prices;
+    struct caching_id id;
     uint8_t server_count;
     uint16_t last;
     uint32_t second;
@@ -118,14 +129,13 @@ struct caching_answer caching_least(const uint8_t *log, size_t log_length, uint6
 struct caching_answer caching_least_with(const uint8_t *prices, size_t prices_length, const uint8_t *log, size_t log_length,
                                          uint64_t *costs, size_t costs_length);
 
-/* the state has the prices of the class; 43 for class 7 */
-struct caching_cache_answer caching_start(uint8_t file_class, uint8_t server_count, uint8_t home);
+/* the state has the prices of the class and the file's id; 43 for class 7 */
+struct caching_cache_answer caching_start(struct caching_header header);
 
-struct caching_cache_answer caching_start_with(const uint8_t *prices, size_t prices_length, uint8_t file_class, uint8_t server_count,
-                                               uint8_t home);
+struct caching_cache_answer caching_start_with(const uint8_t *prices, size_t prices_length, struct caching_header header);
 
-/* value 0: kept; value 1: sent, more: from which server */
-struct caching_scan_answer caching_scan(struct caching_cache cache, uint32_t second, uint16_t server);
+/* value 0: kept; value 1: sent, more: from which server; 39 for an id that is not the state's */
+struct caching_scan_answer caching_scan(struct caching_cache cache, struct caching_id id, uint32_t second, uint16_t server);
 
 /* value: the running cost, of a closed state too */
 struct caching_answer caching_running(struct caching_cache cache);

@@ -192,9 +192,9 @@ type Answer = Result<Served, Refusal>;
 
 /// A whole log given to a new cache, a state going in and coming back by value; and what is done with each answer.
 fn online<C: Calls>(log: &Log, mut answered: impl FnMut(Answer)) -> Cache {
-    let (mut cache, _) = C::start(None, log.header.class, log.header.server_count, log.header.home);
+    let (mut cache, _) = C::start(None, &log.header);
     for request in &log.requests {
-        let (next, served) = C::scan(&cache, request.second, request.server);
+        let (next, served) = C::scan(&cache, log.header.id, request.second, request.server);
         answered(served);
         cache = next;
     }
@@ -203,9 +203,9 @@ fn online<C: Calls>(log: &Log, mut answered: impl FnMut(Answer)) -> Cache {
 
 /// The same in place, as Rust alone has it.
 fn online_in_place(log: &Log, mut answered: impl FnMut(Answer)) -> Cache {
-    let (mut cache, _) = Fast::start(None, log.header.class, log.header.server_count, log.header.home);
+    let (mut cache, _) = Fast::start(None, &log.header);
     for request in &log.requests {
-        answered(fast::online::scan(&mut cache, request.second, request.server));
+        answered(fast::online::scan(&mut cache, log.header.id, request.second, request.server));
     }
     cache
 }
@@ -392,13 +392,13 @@ fn check_rows(schedule: Schedule, rows: u32) -> Line {
 /// A start alone, of the last class of a price file.
 fn start_with(classes: usize) -> Line {
     let file = encode(&vec![(3, HIGHEST); classes]);
-    let class = (classes - 1) as u8;
-    assert_eq!(Library::start(Some(&file), class, 64, 0), Fast::start(Some(&file), class, 64, 0));
+    let header = Header { class: (classes - 1) as u8, server_count: 64, home: 0, id: [7; 16] };
+    assert_eq!(Library::start(Some(&file), &header), Fast::start(Some(&file), &header));
     let mut least = Times::NONE;
     for _ in 0..ROUNDS {
         least = least.min(times(
-            &mut || used(Library::start(Some(black_box(&file)), class, 64, 0)),
-            &mut || used(Fast::start(Some(black_box(&file)), class, 64, 0)),
+            &mut || used(Library::start(Some(black_box(&file)), &header)),
+            &mut || used(Fast::start(Some(black_box(&file)), &header)),
         ));
     }
     Line::new(START, 0, classes as u32, least)

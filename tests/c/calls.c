@@ -1,5 +1,5 @@
-/* Every call of include/caching.h once, on the week of document 01's case C, as C links it, a write and a start of the class that is no longer sold,
- * then those with a price file; prints what each gives. */
+/* Every call of include/caching.h once, on the week of document 01's case C, as C links it, a scan of another file, a write and a start of the class
+ * that is no longer sold, then those with a price file; prints what each gives. */
 #include "../../include/caching.h"
 #include <stdio.h>
 #include <string.h>
@@ -14,8 +14,10 @@ int main(void)
 {
     const uint32_t seconds[4] = {1, 2, 11, 12};
     const uint16_t servers[4] = {1, 2, 1, 0};
-    struct caching_header header = {0, 3, 0, {0}};
-    memcpy(header.id, "0123456789abcdef", 16);
+    struct caching_header header = {0, 3, 0, {{0}}};
+    memcpy(header.id.bytes, "0123456789abcdef", 16);
+    struct caching_id other = header.id;
+    other.bytes[15] = 'g';
 
     uint8_t log[64];
     say("write", caching_write(header, seconds, 4, servers, 4, log, 64));
@@ -44,18 +46,23 @@ int main(void)
     for (int k = 0; k < 5; k++)
         printf("least %d: %llu\n", k, (unsigned long long)costs[k]);
 
-    struct caching_cache_answer live = caching_start(0, 3, 0);
+    struct caching_cache_answer live = caching_start(header);
     say("start", live.answer);
+    printf("id: %d\n", memcmp(&live.cache.id, &header.id, sizeof header.id) == 0);
+    struct caching_scan_answer scan = caching_scan(live.cache, other, seconds[0], servers[0]);
+    say("scan of another id", scan.answer);
     for (int k = 0; k < 4; k++) {
-        struct caching_scan_answer scan = caching_scan(live.cache, seconds[k], servers[k]);
+        scan = caching_scan(scan.cache, header.id, seconds[k], servers[k]);
         say("scan", scan.answer);
         printf("running: %llu\n", (unsigned long long)scan.running);
-        live.cache = scan.cache;
     }
+    live.cache = scan.cache;
+    say("scan of another id", caching_scan(live.cache, other, 12, 0).answer);
     say("running", caching_running(live.cache));
     live = caching_close(live.cache);
     say("close", live.answer);
     say("close again", caching_close(live.cache).answer);
+    say("scan of another id after it", caching_scan(live.cache, other, 13, 0).answer);
     say("running still", caching_running(live.cache));
 
     uint8_t same[64];
@@ -63,9 +70,9 @@ int main(void)
     header.file_class = 7;
     say("write class 7", caching_write(header, seconds, 4, servers, 4, log, 64));
     printf("as it was: %d\n", memcmp(same, log, 64) == 0);
-    live = caching_start(7, 3, 0);
+    live = caching_start(header);
     say("start class 7", live.answer);
-    say("scan of zeros", caching_scan(live.cache, 1, 1).answer);
+    say("scan of zeros", caching_scan(live.cache, header.id, 1, 1).answer);
 
     /* two classes, 5 and 3, 2 and 20; the same with one byte less, and with a price of 0 */
     const uint8_t prices[20] = {2, 0, 4, 0, 5, 0, 0, 0, 3, 0, 0, 0, 2, 0, 0, 0, 20, 0, 0, 0};
@@ -90,11 +97,13 @@ int main(void)
         printf("least %d: %llu\n", k, (unsigned long long)costs[k]);
     say("least with wrong", caching_least_with(wrong, 20, log, 64, costs, 5));
 
-    say("start with no such class", caching_start_with(prices, 20, 2, 3, 0).answer);
-    live = caching_start_with(prices, 20, 1, 3, 0);
+    header.file_class = 2;
+    say("start with no such class", caching_start_with(prices, 20, header).answer);
+    header.file_class = 1;
+    live = caching_start_with(prices, 20, header);
     say("start with", live.answer);
     printf("prices: %u %u\n", (unsigned)live.cache.prices.hold, (unsigned)live.cache.prices.transfer);
-    struct caching_scan_answer scan = caching_scan(live.cache, 1, 1);
+    scan = caching_scan(live.cache, header.id, 1, 1);
     say("scan", scan.answer);
     printf("running: %llu\n", (unsigned long long)scan.running);
     say("close", caching_close(scan.cache).answer);

@@ -27,10 +27,11 @@ pub trait Calls {
     /// The number of least costs: one for none, one, .. and all requests.
     fn least(prices: PriceFile, file: &[u8], costs: &mut [u64]) -> Result<u32, Refusal>;
 
-    /// A state, of zeros if refused.
-    fn start(prices: PriceFile, class: u8, server_count: u8, home: u8) -> (Cache, Result<(), Refusal>);
+    /// A state for what a log's header says, of zeros if refused.
+    fn start(prices: PriceFile, header: &Header) -> (Cache, Result<(), Refusal>);
 
-    fn scan(cache: &Cache, second: u32, server: u16) -> (Cache, Result<Served, Refusal>);
+    /// A request of the file that has an id.
+    fn scan(cache: &Cache, id: [u8; 16], second: u32, server: u16) -> (Cache, Result<Served, Refusal>);
 
     /// The running cost, of a closed state too.
     fn running(cache: &Cache) -> Result<u64, Refusal>;
@@ -112,12 +113,12 @@ impl Calls for Simple {
         Ok(least.len() as u32)
     }
 
-    fn start(prices: PriceFile, class: u8, server_count: u8, home: u8) -> (Cache, Result<(), Refusal>) {
-        online::or_zeros(Table::read(prices).and_then(|table| online::start(&table, class, server_count, home)))
+    fn start(prices: PriceFile, header: &Header) -> (Cache, Result<(), Refusal>) {
+        online::or_zeros(Table::read(prices).and_then(|table| online::start(&table, header)))
     }
 
-    fn scan(cache: &Cache, second: u32, server: u16) -> (Cache, Result<Served, Refusal>) {
-        cache.scan(second, server)
+    fn scan(cache: &Cache, id: [u8; 16], second: u32, server: u16) -> (Cache, Result<Served, Refusal>) {
+        cache.scan(id, second, server)
     }
 
     fn running(cache: &Cache) -> Result<u64, Refusal> {

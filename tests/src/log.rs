@@ -46,17 +46,17 @@ pub fn number32(file: &[u8], at: usize) -> u32 {
 }
 
 /// 3, 43, 4, 5, for a number of classes; 43 is of one class, or of none for a log that exists already.
-pub fn check_setup(classes: usize, unsold: Option<u8>, class: u8, server_count: u8, home: u8) -> Result<(), Refusal> {
-    if class as usize >= classes {
+pub fn check_setup(classes: usize, unsold: Option<u8>, header: &Header) -> Result<(), Refusal> {
+    if header.class as usize >= classes {
         return refuse(3, 0);
     }
-    if unsold == Some(class) {
+    if unsold == Some(header.class) {
         return refuse(43, 0);
     }
-    if server_count < 1 || server_count > 64 {
+    if header.server_count < 1 || header.server_count > 64 {
         return refuse(4, 0);
     }
-    if home >= server_count {
+    if header.home >= header.server_count {
         return refuse(5, 0);
     }
     Ok(())
@@ -87,7 +87,7 @@ pub fn header_of(classes: usize, file: &[u8], sum: impl Fn(&[u8]) -> u32) -> Res
         return refuse(2, 0);
     }
     let header = Header { class: file[2], server_count: file[3], home: file[4], id: file[24..40].try_into().unwrap() };
-    check_setup(classes, None, header.class, header.server_count, header.home)?;
+    check_setup(classes, None, &header)?;
     if file[5] != 0 {
         return refuse(6, 0);
     }
@@ -147,7 +147,7 @@ pub fn requests_of(seconds: &[u32], servers: &[u16]) -> Vec<Request> {
 
 /// The file for a header and two lists, or the first of 3, 43, 4, 5, 7 and 11 to 13 that holds.
 pub fn write(table: &Table, header: &Header, seconds: &[u32], servers: &[u16]) -> Result<Vec<u8>, Refusal> {
-    check_setup(table.classes(), table.unsold(), header.class, header.server_count, header.home)?;
+    check_setup(table.classes(), table.unsold(), header)?;
     if seconds.len() != servers.len() || seconds.len() > MOST_REQUESTS {
         return refuse(7, 0);
     }

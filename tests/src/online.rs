@@ -1,4 +1,4 @@
-//! 01, 'The live keeper', the refusals 11, 12 and 32 to 35, and 02's requests 02, 05 and 10.
+//! 01, 'The live keeper', the refusals 11, 12, 32 to 35 and 39, and 02's requests 02, 05, 06 and 10.
 
 use crate::log::{check_setup, Header, Request, LAST_SECOND, MOST_REQUESTS};
 use crate::planner::Mark;
@@ -10,6 +10,8 @@ use crate::{refuse, Refusal};
 #[derive(Clone, Copy, Debug, PartialEq, Eq)]
 pub struct Cache {
     pub prices: Prices,
+    /// of the file whose requests it takes (01: pass id)
+    pub id: [u8; 16],
     pub server_count: u8,
     pub last: u16,
     pub second: u32,
@@ -43,6 +45,7 @@ pub const MOST_HELD: u32 = 256_000_000;
 /// The state of a refused start.
 pub const ZEROS: Cache = Cache {
     prices: Prices { hold: 0, transfer: 0 },
+    id: [0; 16],
     server_count: 0,
     last: 0,
     second: 0,
@@ -55,19 +58,19 @@ pub const ZEROS: Cache = Cache {
 };
 
 /// A new cache, or the first of 3, 43, 4 and 5 that holds; 43 is of one class, or of none.
-fn started(table: &Table, unsold: Option<u8>, class: u8, server_count: u8, home: u8) -> Result<Cache, Refusal> {
-    check_setup(table.classes(), unsold, class, server_count, home)?;
-    Ok(Cache::fresh(table.of(class), server_count, home))
+fn started(table: &Table, unsold: Option<u8>, header: &Header) -> Result<Cache, Refusal> {
+    check_setup(table.classes(), unsold, header)?;
+    Ok(Cache::fresh(table.of(header.class), header))
 }
 
 /// The public start: the class that is no longer sold is refused.
-pub fn start(table: &Table, class: u8, server_count: u8, home: u8) -> Result<Cache, Refusal> {
-    started(table, table.unsold(), class, server_count, home)
+pub fn start(table: &Table, header: &Header) -> Result<Cache, Refusal> {
+    started(table, table.unsold(), header)
 }
 
 /// The start for a log that exists already, whether or not its class is sold.
 pub fn start_for_log(table: &Table, header: &Header) -> Result<Cache, Refusal> {
-    started(table, None, header.class, header.server_count, header.home)
+    started(table, None, header)
 }
 
 /// The answer of a start, beside the state that it gives.
@@ -79,9 +82,10 @@ pub fn or_zeros(started: Result<Cache, Refusal>) -> (Cache, Result<(), Refusal>)
 }
 
 impl Cache {
-    /// The copy at home, nothing used, held or sent.
-    pub fn fresh(prices: Prices, server_count: u8, home: u8) -> Cache {
-        Cache { prices, server_count, last: home as u16, holders: 1 << home, ..ZEROS }
+    /// The header's id and servers, the copy at home, nothing used, held or sent.
+    pub fn fresh(prices: Prices, header: &Header) -> Cache {
+        let Header { server_count, home, id, .. } = *header;
+        Cache { prices, id, server_count, last: home as u16, holders: 1 << home, ..ZEROS }
     }
 
     fn has(&self, server: usize) -> bool {
@@ -119,8 +123,8 @@ impl Cache {
             || self.held > MOST_HELD
     }
 
-    /// 11, 12, then 32 to 35, by a way to tell an unsound state.
-    pub fn scan_fault(&self, second: u32, server: u16, unsound: impl Fn(&Cache) -> bool) -> Result<(), Refusal> {
+    /// 11, 12, 32, 33, 39, 34, 35, by a way to tell an unsound state.
+    pub fn scan_fault(&self, id: [u8; 16], second: u32, server: u16, unsound: impl Fn(&Cache) -> bool) -> Result<(), Refusal> {
         if server >= self.server_count as u16 {
             return refuse(11, 0);
         }
@@ -132,6 +136,9 @@ impl Cache {
         }
         if self.closed {
             return refuse(33, 0);
+        }
+        if id != self.id {
+            return refuse(39, 0);
         }
         if self.requests == MOST_REQUESTS as u32 {
             return refuse(34, 0);
@@ -148,8 +155,8 @@ impl Cache {
         until - self.second as u64
     }
 
-    pub fn scan(&self, second: u32, server: u16) -> (Cache, Result<Served, Refusal>) {
-        if let Err(refusal) = self.scan_fault(second, server, Cache::is_unsound) {
+    pub fn scan(&self, id: [u8; 16], second: u32, server: u16) -> (Cache, Result<Served, Refusal>) {
+        if let Err(refusal) = self.scan_fault(id, second, server, Cache::is_unsound) {
             return (*self, Err(refusal));
         }
         let t = second as u64;
@@ -276,6 +283,12 @@ mod tests {
     use crate::prices::{BUILT_IN, HIGHEST, UNSOLD};
     use crate::random::{random_header, random_requests, random_table, Random};
 
+    const ID: [u8; 16] = *b"0123456789abcdef";
+
+    fn header(class: u8, server_count: u8, home: u8) -> Header {
+        Header { class, server_count, home, id: ID }
+    }
+
     #[test]
     fn state_and_history_agree_and_stay_within_three_times_the_least() {
         let mut random = Random::new(6);
@@ -289,7 +302,7 @@ mod tests {
             let mut cache = start_for_log(&table, &header).unwrap();
             let mut marks = vec![];
             for request in &requests {
-                let (next, served) = cache.scan(request.second, request.server);
+                let (next, served) = cache.scan(header.id, request.second, request.server);
                 assert!(!next.is_unsound());
                 marks.push(served.unwrap().mark());
                 cache = next;
@@ -308,7 +321,7 @@ mod tests {
 
     #[test]
     fn refusals() {
-        let start = |class, server_count, home| Simple::start(None, class, server_count, home);
+        let start = |class, server_count, home| Simple::start(None, &header(class, server_count, home));
         let (cache, _) = start(0, 2, 0);
         assert_eq!(start(8, 2, 0), (ZEROS, refuse(3, 0)));
         assert_eq!(start(7, 2, 0), (ZEROS, refuse(43, 0)));
@@ -316,24 +329,58 @@ mod tests {
         assert_eq!(start(0, 0, 0), (ZEROS, refuse(4, 0)));
         assert_eq!(start(0, 65, 0), (ZEROS, refuse(4, 0)));
         assert_eq!(start(0, 2, 2), (ZEROS, refuse(5, 0)));
-        assert_eq!(cache.scan(1, 2), (cache, refuse(11, 0)));
-        assert_eq!(cache.scan(0, 1), (cache, refuse(12, 0)));
-        assert_eq!(cache.scan(LAST_SECOND + 1, 1), (cache, refuse(12, 0)));
-        assert_eq!(ZEROS.scan(1, 0), (ZEROS, refuse(11, 0)));
+        assert_eq!(cache.scan(ID, 1, 2), (cache, refuse(11, 0)));
+        assert_eq!(cache.scan(ID, 0, 1), (cache, refuse(12, 0)));
+        assert_eq!(cache.scan(ID, LAST_SECOND + 1, 1), (cache, refuse(12, 0)));
+        assert_eq!(ZEROS.scan(ID, 1, 0), (ZEROS, refuse(11, 0)));
+        assert_eq!(ZEROS.scan(ZEROS.id, 1, 0), (ZEROS, refuse(11, 0)));
         assert_eq!(ZEROS.close(), (ZEROS, refuse(32, 0)));
         assert_eq!(ZEROS.running(), refuse(32, 0));
         let (closed, cost) = cache.close();
         assert_eq!((closed, cost), (Cache { closed: true, ..cache }, Ok(10)));
-        assert_eq!(closed.scan(1, 1), (closed, refuse(33, 0)));
+        assert_eq!(closed.scan(ID, 1, 1), (closed, refuse(33, 0)));
         assert_eq!(closed.close(), (closed, refuse(33, 0)));
         assert_eq!(closed.running(), Ok(0));
         let full = Cache { requests: 2048, ..cache };
-        assert_eq!(full.scan(1, 1), (full, refuse(34, 0)));
+        assert_eq!(full.scan(ID, 1, 1), (full, refuse(34, 0)));
         assert!(full.close().1.is_ok());
-        let (later, _) = cache.scan(5, 1);
-        assert_eq!(later.scan(5, 0), (later, refuse(35, 0)));
+        let (later, _) = cache.scan(ID, 5, 1);
+        assert_eq!(later.scan(ID, 5, 0), (later, refuse(35, 0)));
         let wrong = Cache { server_count: 200, ..cache };
-        assert_eq!(wrong.scan(1, 100), (wrong, refuse(32, 0)));
+        assert_eq!(wrong.scan(ID, 1, 100), (wrong, refuse(32, 0)));
+    }
+
+    /// 39 comes before 34 and 35, and after all others.
+    #[test]
+    fn refusals_of_another_id() {
+        let (fresh, _) = Simple::start(None, &header(0, 2, 0));
+        let (later, _) = fresh.scan(ID, 5, 1);
+        assert_eq!((fresh.id, later.id), (ID, ID));
+        let full = Cache { requests: 2048, ..later };
+        let (closed, _) = later.close();
+        assert_eq!(closed.id, ID);
+        let wrong = Cache { held: MOST_HELD + 1, ..later };
+        let scans = [
+            (fresh, 6, 0, 39),
+            (later, 6, 0, 39),
+            (later, 5, 0, 39),
+            (later, 4, 1, 39),
+            (full, 6, 0, 39),
+            (full, 5, 0, 39),
+            (closed, 6, 0, 33),
+            (Cache { closed: true, ..full }, 6, 0, 33),
+            (wrong, 6, 0, 32),
+            (Cache { closed: true, ..wrong }, 6, 0, 32),
+            (later, 0, 0, 12),
+            (later, LAST_SECOND + 1, 0, 12),
+            (later, 6, 2, 11),
+            (wrong, 0, 2, 11),
+        ];
+        for (state, second, server, number) in scans {
+            for other in [*b"0123456789abcdeg", *b"1123456789abcdef", [0; 16]] {
+                assert_eq!(state.scan(other, second, server), (state, refuse(number, 0)), "{state:?} {second} {server}");
+            }
+        }
     }
 
     /// They differ in 43 alone.
@@ -341,21 +388,21 @@ mod tests {
     fn both_starts() {
         let table = Table::built_in();
         for (class, server_count, home) in [(0, 2, 1), (6, 2, 1), (8, 2, 1), (8, 0, 0), (6, 0, 0), (6, 65, 0), (6, 2, 2)] {
-            let header = Header { class, server_count, home, id: [0; 16] };
-            assert_eq!(start_for_log(&table, &header), start(&table, class, server_count, home));
+            let header = header(class, server_count, home);
+            assert_eq!(start_for_log(&table, &header), start(&table, &header));
         }
         let sold = Table::of_pairs(&BUILT_IN);
         for (server_count, home) in [(2, 1), (0, 0), (65, 0), (2, 2)] {
-            let header = Header { class: UNSOLD, server_count, home, id: [0; 16] };
-            assert_eq!(start_for_log(&table, &header), start(&sold, UNSOLD, server_count, home));
-            assert_eq!(start(&table, UNSOLD, server_count, home), refuse(43, 0));
+            let header = header(UNSOLD, server_count, home);
+            assert_eq!(start_for_log(&table, &header), start(&sold, &header));
+            assert_eq!(start(&table, &header), refuse(43, 0));
         }
-        assert!(start(&sold, UNSOLD, 2, 1).is_ok());
+        assert_eq!(start(&sold, &header(UNSOLD, 2, 1)).map(|cache| cache.id), Ok(ID));
     }
 
     #[test]
     fn each_condition_of_32() {
-        let (cache, _) = Cache::fresh(Prices { hold: 1, transfer: 10 }, 3, 0).scan(5, 1);
+        let (cache, _) = Cache::fresh(Prices { hold: 1, transfer: 10 }, &header(0, 3, 0)).scan(ID, 5, 1);
         assert!(!cache.is_unsound());
         let with_use = |server: usize, second: u32| {
             let mut changed = cache;
@@ -390,6 +437,8 @@ mod tests {
             Cache { prices: Prices { hold: HIGHEST, transfer: 1 }, ..cache },
             Cache { prices: Prices { hold: 1, transfer: HIGHEST }, ..cache },
             Cache { prices: Prices { hold: 5, transfer: 25 }, ..with_use(0, 0) },
+            Cache { id: [0; 16], ..cache },
+            Cache { id: [0xff; 16], ..cache },
             Cache { second: 15, ..with_use(1, 15) },
             Cache { requests: 2048, ..cache },
             Cache { held: MOST_HELD, ..cache },

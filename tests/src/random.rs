@@ -147,6 +147,26 @@ pub fn random_gap(random: &mut Random, prices: Prices, most: u32) -> u32 {
     gap.min(most as u64) as u32
 }
 
+/// The id of a file (01: pass id), any sixteen bytes.
+pub fn random_id(random: &mut Random) -> [u8; 16] {
+    random.bytes(16).try_into().unwrap()
+}
+
+/// An id with one of its 128 bits changed.
+pub fn one_bit_off(id: [u8; 16], bit: usize) -> [u8; 16] {
+    let mut other = id;
+    other[bit / 8] ^= 1 << (bit % 8);
+    other
+}
+
+/// The id of another file: one bit off, or any.
+pub fn another_id(random: &mut Random, id: [u8; 16]) -> [u8; 16] {
+    if random.once_in(2) {
+        return one_bit_off(id, random.below(128) as usize);
+    }
+    random_id(random)
+}
+
 /// A header of one of a table's classes.
 pub fn random_header(random: &mut Random, table: &Table) -> Header {
     let server_count = match random.below(8) {
@@ -157,14 +177,12 @@ pub fn random_header(random: &mut Random, table: &Table) -> Header {
         5 => 64,
         _ => random.between(2, 8) as u8,
     };
-    let mut header = Header {
+    Header {
         class: random.below(table.classes() as u64) as u8,
         server_count,
         home: random.below(server_count as u64) as u8,
-        id: [0; 16],
-    };
-    header.id.copy_from_slice(&random.bytes(16));
-    header
+        id: random_id(random),
+    }
 }
 
 /// A next server: any, the one just before, or one of a few.

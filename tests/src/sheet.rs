@@ -15,7 +15,7 @@ pub fn sheet(table: &Table, log: &Log) -> String {
     let mut cache = start_for_log(table, &log.header).unwrap();
     let mut text = String::from("scan second station plan live least bill\n");
     for (i, request) in log.requests.iter().enumerate() {
-        let (next, served) = cache.scan(request.second, request.server);
+        let (next, served) = cache.scan(log.header.id, request.second, request.server);
         let served = served.unwrap();
         let live = letter(served.mark()) as char;
         cache = next;

@@ -21,6 +21,8 @@ least 2: 22
 least 3: 31
 least 4: 42
 start: 0 0 0 0
+id: 1
+scan of another id: 39 0 0 0
 scan: 0 0 1 0
 running: 11
 scan: 0 0 1 1
@@ -29,9 +31,11 @@ scan: 0 0 0 0
 running: 50
 scan: 0 0 1 1
 running: 62
+scan of another id: 39 0 0 0
 running: 0 0 62 0
 close: 0 0 82 0
 close again: 33 0 0 0
+scan of another id after it: 33 0 0 0
 running still: 0 0 62 0
 write class 7: 43 0 0 0
 as it was: 1

@@ -94,6 +94,15 @@ fn case_c() {
     assert_eq!(run(&week_c().bytes()), WEEK_C);
 }
 
+/// Whatever the id, the sheet is the same.
+#[test]
+fn any_id() {
+    for id in [[0; 16], [0xff; 16], *b"0123456789abcdef"] {
+        let Log { header, requests } = week_c();
+        assert_eq!(run(&Log { header: Header { id, ..header }, requests }.bytes()), WEEK_C);
+    }
+}
+
 #[test]
 fn no_request() {
     for (class, closing) in [(0, 10), (2, 24), (6, 0)] {

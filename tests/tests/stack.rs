@@ -69,8 +69,9 @@ fn read_and_write() {
 fn online() {
     on(20_000, || {
         for prices in [None, Some(&prices()[..])] {
-            let (cache, _) = Library::start(prices, 6, 64, 63);
-            let (cache, served) = Library::scan(&cache, 1, 0);
+            let header = Header { class: 6, server_count: 64, home: 63, id: [7; 16] };
+            let (cache, _) = Library::start(prices, &header);
+            let (cache, served) = Library::scan(&cache, header.id, 1, 0);
             assert!(served.is_ok());
             assert!(Library::close(&cache).1.is_ok());
         }

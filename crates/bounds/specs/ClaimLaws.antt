@@ -5,7 +5,8 @@ use native.Mathlib.Omega.{arith}
 use Prim.Native.Nat.{ℕ, _+_, _*_}
 use Rattle.prices.specs.declared.Prices.{Prices}
 use Rattle.prices.specs.Prices.{prices-of, window, In-range}
-use Rattle.log.specs.declared.Setup.{Setup}
+use Rattle.log.specs.declared.Header.{Header}
+use Rattle.log.specs.Contents.{setup-in}
 use Rattle.log.specs.Ranges.{Allowed}
 use Rattle.model.specs.Requests.{Requests, requests, Within}
 use Rattle.model.specs.Plan.{plan-cost}
@@ -30,7 +31,7 @@ use Rattle.bounds.specs.Reached.{reached-fresh, reached-intact}
 use Rattle.bounds.specs.Onward.{Along, Led, onward}
 use Rattle.bounds.specs.Claim.{Claim, served, served-count}
 
-module _ (table : List Prices) (s : Setup) (k : Allowed s) (range : In-range (prices-of table (s .«class»))) (calls : List Call) where
+module _ (table : List Prices) (s : Header) (k : Allowed (setup-in s)) (range : In-range (prices-of table (s .«class»))) (calls : List Call) where
   -- in short
   abbrev p : Prices
   p = prices-of table (s .«class»)
@@ -50,9 +51,9 @@ module _ (table : List Prices) (s : Setup) (k : Allowed s) (range : In-range (pr
   led =
       onward table s k range q calls (fresh table s) begun 0 n
       (record { reached = reached-fresh table s k q refl refl; second-is = refl; taken-is = refl; closed-is = refl })
-      (follows-of (s .home) (taken (s .«server_count») begun calls)) (omega arith)
+      (follows-of (s .home) (taken s begun calls)) (omega arith)
 
-  end : Along table s k range q c (progress (s .«server_count») begun calls) n
+  end : Along table s k range q c (progress s begun calls) n
   end = led .along
 
   -- the running cost is that of the history
@@ -84,11 +85,13 @@ module _ (table : List Prices) (s : Setup) (k : Allowed s) (range : In-range (pr
       let r = end .reached in
       record {
         refused = led .refused;
-        never-32 = λ x m. progress-laws.never-32 (s .«server_count») begun calls x (rw (led .refused) at m);
+        never-32 = λ x m. progress-laws.never-32 s begun calls x (rw (led .refused) at m);
         unbroken = intact-unbroken c (reached-intact table s k range q c n r);
+        own-file = progress-laws.taken-own s begun calls;
         rising = r .rising;
         within = r .within;
         prices-are = r .prices-are;
+        id-is = r .id-is;
         count-is = r .count-is;
         last-is = r .agrees .last-is;
         second-is = r .agrees .second-is;
@@ -119,7 +122,7 @@ module _ (table : List Prices) (s : Setup) (k : Allowed s) (range : In-range (pr
       }
 
 -- the closing cost of a fresh state is the holding of one window
-pub closing-fresh : (table : List Prices) (s : Setup) → Allowed s → In-range (prices-of table (s .«class»))
+pub closing-fresh : (table : List Prices) (s : Header) → Allowed (setup-in s) → In-range (prices-of table (s .«class»))
     → closing (fresh table s) ≡ prices-of table (s .«class») .hold * window (prices-of table (s .«class»))
 unfolding run taken requests-of requests
 closing-fresh table s k range =

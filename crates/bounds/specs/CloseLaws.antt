@@ -14,7 +14,7 @@ use Rattle.bounds.specs.CallLaws.{after-close, after-refused}
 -- no call passes on a closed state
 closed-refuses : (c : Cache) (a : Call) → c .closed ≡ true → verdict c a ≡ Passed → ⊥
 unfolding verdict
-closed-refuses c (scan second server) h e = not-both h (scan-passed c second server e .not-closed)
+closed-refuses c (scan id second server) h e = not-both h (scan-passed c id second server e .not-closed)
 closed-refuses c close h e = not-both h (close-passed c e .1)
 
 -- so each gives it back as it was

@@ -8,6 +8,7 @@ pub mod Claim
 pub mod CallLaws
 pub mod CloseLaws
 pub mod ProgressLaws
+pub mod OtherFiles
 pub mod HistoryLaws
 pub mod Seconds
 pub mod Potential

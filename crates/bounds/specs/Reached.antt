@@ -5,7 +5,7 @@ use mathlib.Core.Logic.{_⊎_, inl, inr, _≢_}
 use mathlib.Core.Option.{some}
 use mathlib.Core.Path.{_≡_, refl, sym, ap, _∙_}
 use native.Mathlib.Omega.{arith}
-use Prim.Native.Nat.{ℕ, suc, _+_, _≤_, _<_}
+use Prim.Native.Nat.{ℕ, suc, _≤_, _<_}
 use lib.Dec.{eqb}
 use lib.ListN.{getD}
 use borrow.Author.Tests.{eq-eqb, ne-eqb}
@@ -15,7 +15,8 @@ use Rattle.base.specs.Sets.{has}
 use Rattle.base.specs.declared.Verdict.the-variants.{Passed}
 use Rattle.prices.specs.declared.Prices.{Prices}
 use Rattle.prices.specs.Prices.{prices-of, window, In-range}
-use Rattle.log.specs.declared.Setup.{Setup}
+use Rattle.log.specs.declared.Header.{Header}
+use Rattle.log.specs.Contents.{setup-in}
 use Rattle.log.specs.Ranges.{Allowed}
 use Rattle.model.specs.Requests.{Requests, latest, Rising, Within}
 use Rattle.model.specs.RequestLaws.{none-some, latest-some}
@@ -32,8 +33,9 @@ use Rattle.online.specs.Answers.{scan-verdict}
 use Rattle.online.specs.Passed.{Fit, scan-passed}
 
 -- the state after the first i of some requests, of a start that was given a table and s
-pub record Reached (table : List Prices) (s : Setup) (q : Requests) (c : Cache) (i : ℕ) : Type 0 where
+pub record Reached (table : List Prices) (s : Header) (q : Requests) (c : Cache) (i : ℕ) : Type 0 where
   pub prices-are : c .prices ≡ prices-of table (s .«class»)
+  pub id-is : c .id ≡ s .id
   pub count-is : c .«server_count» ≡ s .«server_count»
   pub agrees : Agrees (window (prices-of table (s .«class»))) q c i
   pub second-most : q .time i ≤ 4000000
@@ -42,11 +44,12 @@ pub record Reached (table : List Prices) (s : Setup) (q : Requests) (c : Cache) 
   pub within : Within (s .«server_count») q i
 
 -- a start reaches it
-pub reached-fresh : (table : List Prices) (s : Setup) → Allowed s → (q : Requests) → q .time 0 ≡ 0 → q .server 0 ≡ s .home → Reached table s q (fresh table s) 0
+pub reached-fresh : (table : List Prices) (s : Header) → Allowed (setup-in s) → (q : Requests) → q .time 0 ≡ 0 → q .server 0 ≡ s .home → Reached table s q (fresh table s) 0
 unfolding fresh Within copy-at use-at window-of
 reached-fresh table s k q z e =
     record {
       prices-are = refl;
+      id-is = refl;
       count-is = refl;
       agrees =
           record {
@@ -75,12 +78,13 @@ reached-fresh table s k q z e =
     seen y h = rw (has-set 64 (λ y. eqb y (s .home)) y h, build-at {A = ℕ} 64 (λ y. 0) y 0 h) (at y (same-or-not y (s .home)))
 
 -- one request more
-reached-next : (table : List Prices) (s : Setup) (q : Requests) (c : Cache) (i : ℕ) → Reached table s q c i → Fit c (q .time (suc i)) (q .server (suc i))
+reached-next : (table : List Prices) (s : Header) (q : Requests) (c : Cache) (i : ℕ) → Reached table s q c i → Fit c (q .time (suc i)) (q .server (suc i))
     → Reached table s q (accept c (q .time (suc i)) (q .server (suc i))) (suc i)
 unfolding accept Within
 reached-next table s q c i r f =
     record {
       prices-are = r .prices-are;
+      id-is = r .id-is;
       count-is = r .count-is;
       agrees = agrees-next (window (prices-of table (s .«class»))) q c i (r .agrees) up (omega (arith, f .counted, f .intact .count-most));
       second-most = f .second-most;
@@ -101,17 +105,18 @@ reached-next table s q c i r f =
     below l h (inr e) = r .within l (omega arith)
 
 -- the request at a second and a server whose scan is not refused
-pub reached-scan : (table : List Prices) (s : Setup) (q : Requests) (c : Cache) (i second server : ℕ) → Reached table s q c i → scan-verdict c second server ≡ Passed
-    → q .time (suc i) ≡ second → q .server (suc i) ≡ server → Reached table s q (accept c second server) (suc i)
-reached-scan table s q c i second server r e t x = rw (← t, ← x) (reached-next table s q c i r (rw (t, x) (scan-passed c second server e)))
+pub reached-scan : (table : List Prices) (s : Header) (q : Requests) (c : Cache) (i : ℕ) (id : List ℕ) (second server : ℕ) → Reached table s q c i
+    → scan-verdict c id second server ≡ Passed → q .time (suc i) ≡ second → q .server (suc i) ≡ server → Reached table s q (accept c second server) (suc i)
+reached-scan table s q c i id second server r e t x = rw (← t, ← x) (reached-next table s q c i r (rw (t, x) (scan-passed c id second server e)))
 
 -- the close
-pub reached-shut : (table : List Prices) (s : Setup) (q : Requests) (c : Cache) (i : ℕ) → Reached table s q c i → Reached table s q (shut c) i
+pub reached-shut : (table : List Prices) (s : Header) (q : Requests) (c : Cache) (i : ℕ) → Reached table s q c i → Reached table s q (shut c) i
 unfolding shut window-of copy-at use-at
 reached-shut table s q c i r =
     let a = r .agrees in
     record {
       prices-are = r .prices-are;
+      id-is = r .id-is;
       count-is = r .count-is;
       agrees =
           record {
@@ -130,7 +135,7 @@ reached-shut table s q c i r =
     }
 
 -- 32 does not hold of it
-pub reached-intact : (table : List Prices) (s : Setup) → Allowed s → In-range (prices-of table (s .«class»)) → (q : Requests) (c : Cache) (i : ℕ)
+pub reached-intact : (table : List Prices) (s : Header) → Allowed (setup-in s) → In-range (prices-of table (s .«class»)) → (q : Requests) (c : Cache) (i : ℕ)
     → Reached table s q c i → Intact c
 unfolding Within
 reached-intact table s k p q c i r =

@@ -1,7 +1,6 @@
 -- The answers of the public calls in numbers, as a program in another language gets them. Assumes nothing.
 use Prim.Native.Nat.{ℕ}
 use Rattle.base.specs.declared.Refusal.{Refusal}
-use Rattle.log.specs.declared.Setup.{Setup}
 use Rattle.log.specs.declared.ReadOutcome.{ReadOutcome}
 use Rattle.log.specs.declared.ReadOutcome.the-variants as read
 use Rattle.log.specs.declared.Decoded.{Decoded}
@@ -65,10 +64,6 @@ of-plan (plan.Refused r) = refused r
 abbrev pub of-least : LeastCosts → Answer
 of-least (least.Costs count) = accepted count 0
 of-least (least.Refused r) = refused r
-
--- what a start is given
-abbrev pub given : ℕ → ℕ → ℕ → Setup
-given class′ count home = record { «class» = class′; «server_count» = count; home = home }
 
 -- nothing more, or the refusal
 abbrev pub of-start : StartOutcome → Answer

@@ -2,17 +2,23 @@
 ghost use mathlib.Core.Path.{_≡_};
 ghost use Rattle.prices.specs.Offer.{built-in-offer, file-offer};
 ghost use Rattle.online.specs.Answers.{started, scanned, running-answer, closed-answer};
-ghost use Rattle.exports.specs.Answers.{given, of-start, of-scan, running-of, of-running, of-close, start-answer, scan-answer, close-answer};
+ghost use Rattle.exports.specs.Answers.{of-start, of-scan, running-of, of-running, of-close, start-answer, scan-answer, close-answer};
 use crate::Answer;
 use crate::accepted;
 use crate::refused;
 use base::widths::u64_from_u16;
-use log::Setup;
+use log::Header;
 use online::Cache;
 use online::CloseOutcome;
 use online::RunningCost;
 use online::ScanOutcome;
 use online::StartOutcome;
+
+// A file's id, as a scan brings it.
+#[repr(C)]
+pub struct Id {
+    pub bytes: [u8; 16],
+}
 
 #[repr(C)]
 pub struct CacheAnswer {
@@ -37,22 +43,11 @@ fn of_start(outcome: StartOutcome) -> Answer
     }
 }
 
-// What a start is given beside its prices.
-fn given(class: u8, server_count: u8, home: u8) -> Setup
-    ensures { λ r. ⌜ r ≡ given class «server_count» home ⌝ }
-{
-    Setup {
-        class,
-        server_count,
-        home,
-    }
-}
-
 #[no_mangle]
-pub extern "C" fn caching_start(class: u8, server_count: u8, home: u8) -> CacheAnswer
-    ensures { λ r. ⌜ r ≡ start-answer (started built-in-offer (given class «server_count» home)) ⌝ }
+pub extern "C" fn caching_start(header: Header) -> CacheAnswer
+    ensures { λ r. ⌜ r ≡ start-answer (started built-in-offer header) ⌝ }
 {
-    let started = Cache::start(given(class, server_count, home));
+    let started = Cache::start(header);
     let cache = started.cache;
     let outcome = started.outcome;
     CacheAnswer {
@@ -62,15 +57,10 @@ pub extern "C" fn caching_start(class: u8, server_count: u8, home: u8) -> CacheA
 }
 
 #[no_mangle]
-pub extern "C" fn caching_start_with(
-    prices: &[u8],
-    class: u8,
-    server_count: u8,
-    home: u8,
-) -> CacheAnswer
-    ensures { λ r. ⌜ r ≡ start-answer (started (file-offer (now (prices .entry))) (given class «server_count» home)) ⌝ }
+pub extern "C" fn caching_start_with(prices: &[u8], header: Header) -> CacheAnswer
+    ensures { λ r. ⌜ r ≡ start-answer (started (file-offer (now (prices .entry))) header) ⌝ }
 {
-    let started = Cache::start_with(prices, given(class, server_count, home));
+    let started = Cache::start_with(prices, header);
     let cache = started.cache;
     let outcome = started.outcome;
     CacheAnswer {
@@ -101,10 +91,11 @@ fn running_of(outcome: ScanOutcome) -> u64
 }
 
 #[no_mangle]
-pub extern "C" fn caching_scan(cache: Cache, second: u32, server: u16) -> ScanAnswer
-    ensures { λ r. ⌜ r ≡ scan-answer (scanned cache second server) ⌝ }
+pub extern "C" fn caching_scan(cache: Cache, id: Id, second: u32, server: u16) -> ScanAnswer
+    ensures { λ r. ⌜ r ≡ scan-answer (scanned cache (id .bytes) second server) ⌝ }
 {
-    let scanned = cache.scan(second, server);
+    let bytes = id.bytes;
+    let scanned = cache.scan(bytes, second, server);
     let next = scanned.cache;
     let outcome = scanned.outcome;
     ScanAnswer {

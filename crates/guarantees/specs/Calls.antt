@@ -19,9 +19,10 @@ use Rattle.prices.specs.PriceFile.{file-conditions}
 use Rattle.prices.specs.Tariff.{Tariff, price-file, Given, none, file, conditions-of}
 use Rattle.prices.specs.Offer.{Offer, offer-of}
 use Rattle.log.specs.declared.Setup.{Setup}
+use Rattle.log.specs.declared.Header.{Header}
 use Rattle.log.specs.Fields.{request-count, seconds-of, servers-of, length-for}
 use Rattle.log.specs.Conditions.{setup-conditions, offered-conditions, log-conditions}
-use Rattle.log.specs.Contents.{Contents, contents-conditions, encode}
+use Rattle.log.specs.Contents.{setup-in, Contents, contents-conditions, encode}
 use Rattle.log.specs.Answers.{read-verdict, write-verdict}
 use Rattle.log.specs.AnswerLaws.{read-passed, write-passed}
 use Rattle.log.specs.AcceptedLaws.{seconds-length, servers-length}
@@ -166,9 +167,9 @@ pub log-start-decided : (t : Tariff) (g : Given t) (s : Setup) → Decided (cond
 unfolding log-start-verdict
 log-start-decided t g s = decided-after t g _
 
-pub scan-decided : (c : Cache) (second server : ℕ) → Decided (scan-conditions c second server) (scan-verdict c second server)
+pub scan-decided : (c : Cache) (id : List ℕ) (second server : ℕ) → Decided (scan-conditions c id second server) (scan-verdict c id second server)
 unfolding scan-verdict
-scan-decided c second server = decided _
+scan-decided c id second server = decided _
 
 pub running-decided : (c : Cache) → Decided (running-conditions c) (running-verdict c)
 unfolding running-verdict
@@ -207,18 +208,19 @@ line-left r text =
     (λ e. ltb-false (length text) (length (refusal-text r)) (first-passed (short (length (refusal-text r)) (length text) ∷ []) .0 e 0))
 
 -- a refused scan or close gives back the state as it was, a refused start one of zeros
-pub scan-unchanged : (c : Cache) (second server : ℕ) (r : Refusal) → scan-verdict c second server ≡ Refused r → scanned c second server .cache ≡ c
+pub scan-unchanged : (c : Cache) (id : List ℕ) (second server : ℕ) (r : Refusal) → scan-verdict c id second server ≡ Refused r
+    → scanned c id second server .cache ≡ c
 unfolding scanned scanned-by
-scan-unchanged c second server r e = ap (λ (v : Verdict). scanned-by v c second server .cache) e
+scan-unchanged c id second server r e = ap (λ (v : Verdict). scanned-by v c second server .cache) e
 
 pub close-unchanged : (c : Cache) (r : Refusal) → close-verdict c ≡ Refused r → closed-answer c .cache ≡ c
 unfolding closed-answer closed-by
 close-unchanged c r e = ap (λ (v : Verdict). closed-by v c .cache) e
 
-pub start-zeros : (o : Offer) (s : Setup) (r : Refusal) → start-verdict o s ≡ Refused r → started o s .cache ≡ zeros
+pub start-zeros : (o : Offer) (s : Header) (r : Refusal) → start-verdict o (setup-in s) ≡ Refused r → started o s .cache ≡ zeros
 unfolding started started-by
 start-zeros o s r e = ap (λ (v : Verdict). started-by v (o .tariff .table) s .cache) e
 
-pub log-start-zeros : (t : Tariff) (s : Setup) (r : Refusal) → log-start-verdict t s ≡ Refused r → started-for-log t s .cache ≡ zeros
+pub log-start-zeros : (t : Tariff) (s : Header) (r : Refusal) → log-start-verdict t (setup-in s) ≡ Refused r → started-for-log t s .cache ≡ zeros
 unfolding started-for-log started-by
 log-start-zeros t s r e = ap (λ (v : Verdict). started-by v (t .table) s .cache) e

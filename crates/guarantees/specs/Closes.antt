@@ -8,7 +8,7 @@ use Rattle.base.specs.declared.Verdict.{Verdict}
 use Rattle.base.specs.declared.Verdict.the-variants.{Passed}
 use Rattle.prices.specs.Prices.{prices-of, window}
 use Rattle.prices.specs.Tariff.{Tariff, Given}
-use Rattle.log.specs.declared.Setup.{Setup}
+use Rattle.log.specs.declared.Header.{Header}
 use Rattle.online.specs.declared.Cache.{Cache}
 use Rattle.online.specs.declared.Closed.{Closed}
 use Rattle.online.specs.declared.CloseOutcome.the-variants as close′
@@ -49,7 +49,7 @@ close-answers c e =
     }
 
 -- a close that is not refused, after a list of calls
-pub record Closed-within (t : Tariff) (s : Setup) (c : Cache) (calls : List Call) : Type 0 where
+pub record Closed-within (t : Tariff) (s : Header) (c : Cache) (calls : List Call) : Type 0 where
   -- demand 3's claim of the calls before it: its least cost is that of the requests taken
   pub claimed : Claim (t .table) s c calls
   -- it answers the closing cost, which is at least the running cost, and at most three times the least cost and one transfer price
@@ -58,7 +58,7 @@ pub record Closed-within (t : Tariff) (s : Setup) (c : Cache) (calls : List Call
   pub no-more : closing (final (t .table) s c calls) ≤ 3 * claimed .least + prices (t .table) s c calls .transfer
 
 -- THE CLOSE AFTER A LIST OF CALLS
-pub close-within : (t : Tariff) (g : Given t) (s : Setup) (c : Cache) → Ready t g s c → (calls : List Call) → close-verdict (run c calls) ≡ Passed
+pub close-within : (t : Tariff) (g : Given t) (s : Header) (c : Cache) → Ready t g s c → (calls : List Call) → close-verdict (run c calls) ≡ Passed
     → Closed-within t s c calls
 close-within t g s c r calls f =
     let claim = online-within-three t g s c r calls in
@@ -70,7 +70,7 @@ close-within t g s c r calls f =
     }
 
 -- EVERY CLOSE IN A LIST OF CALLS that is not refused is so bounded by the requests taken before it
-pub closes-within : (t : Tariff) (g : Given t) (s : Setup) (c : Cache) → Ready t g s c → (calls : List Call) (x : Taken-close c calls)
+pub closes-within : (t : Tariff) (g : Given t) (s : Header) (c : Cache) → Ready t g s c → (calls : List Call) (x : Taken-close c calls)
     → Closed-within t s c (x .before)
 unfolding verdict
 closes-within t g s c r calls x = close-within t g s c r (x .before) (x .passed)
@@ -80,7 +80,7 @@ pub closes-once : (c : Cache) (calls : List Call) (x y : Taken-close c calls) �
 closes-once = close-once
 
 -- A CLOSE AT ONCE answers the hold price for one window
-pub close-at-once : (t : Tariff) (g : Given t) (s : Setup) (c : Cache) → Ready t g s c
+pub close-at-once : (t : Tariff) (g : Given t) (s : Header) (c : Cache) → Ready t g s c
     → closing c ≡ prices-of (t .table) (s .«class») .hold * window (prices-of (t .table) (s .«class»))
 close-at-once t g s c r =
     let (a, range, e) = ready-fresh t g s c r in

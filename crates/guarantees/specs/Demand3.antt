@@ -14,12 +14,12 @@ use Rattle.prices.specs.Tariff.{Tariff, Given}
 use Rattle.prices.specs.Prices.{prices-of, In-range}
 use Rattle.prices.specs.Offer.{offer-of}
 use Rattle.prices.specs.PriceLaws.{given-priced, offer-tariff}
-use Rattle.log.specs.declared.Setup.{Setup}
+use Rattle.log.specs.declared.Header.{Header}
 use Rattle.log.specs.Fields.{request-count, server-count}
 use Rattle.log.specs.Conditions.{Accepted, verdict-of, log-conditions}
 use Rattle.log.specs.AcceptedLaws.{accepted-sound}
 use Rattle.log.specs.Ranges.{Allowed}
-use Rattle.log.specs.Contents.{decode, first-requests, cut}
+use Rattle.log.specs.Contents.{decode, setup-in, first-requests, cut}
 use Rattle.log.specs.Cutting.{cut-accepted, cut-decodes, cut-count}
 use Rattle.model.specs.LogRequests.{requests-in, prices-in}
 use Rattle.model.specs.LogRequestLaws.{log-rising, log-within, cut-alike, cut-prices}
@@ -138,34 +138,34 @@ planned-best t log k a h =
     }
 
 -- the calls of a list are those of the contracts: each gives back the state of the contract's answer, and is refused by its verdict
-pub scan-call : (c : Cache) (second server : ℕ)
-    → (after c (scan second server) ≡ scanned c second server .cache) × (verdict c (scan second server) ≡ scan-verdict c second server)
+pub scan-call : (c : Cache) (id : List ℕ) (second server : ℕ)
+    → (after c (scan id second server) ≡ scanned c id second server .cache) × (verdict c (scan id second server) ≡ scan-verdict c id second server)
 unfolding after verdict
-scan-call c second server = (refl, refl)
+scan-call c id second server = (refl, refl)
 
 pub close-call : (c : Cache) → (after c close ≡ closed-answer c .cache) × (verdict c close ≡ close-verdict c)
 unfolding after verdict
 close-call c = (refl, refl)
 
 -- the state of a start that is not refused: one of what is sold, or one for a log that there is, whose class may have ended
-pub data Ready (t : Tariff) (g : Given t) (s : Setup) : Cache → Type 0 where
-  sold : start-verdict (offer-of g) s ≡ Passed → Ready t g s (started (offer-of g) s .cache)
-  for-log : log-start-verdict t s ≡ Passed → Ready t g s (started-for-log t s .cache)
+pub data Ready (t : Tariff) (g : Given t) (s : Header) : Cache → Type 0 where
+  sold : start-verdict (offer-of g) (setup-in s) ≡ Passed → Ready t g s (started (offer-of g) s .cache)
+  for-log : log-start-verdict t (setup-in s) ≡ Passed → Ready t g s (started-for-log t s .cache)
 
 -- either way it is fresh, with prices in range
-pub ready-fresh : (t : Tariff) (g : Given t) (s : Setup) (c : Cache) → Ready t g s c
-    → Allowed s × In-range (prices-of (t .table) (s .«class»)) × (c ≡ fresh (t .table) s)
+pub ready-fresh : (t : Tariff) (g : Given t) (s : Header) (c : Cache) → Ready t g s c
+    → Allowed (setup-in s) × In-range (prices-of (t .table) (s .«class»)) × (c ≡ fresh (t .table) s)
 unfolding started started-for-log started-by
 ready-fresh t g s c (for-log e) =
-    let (a, range) = log-start-passed t (given-priced t g) s e in
+    let (a, range) = log-start-passed t (given-priced t g) (setup-in s) e in
     (a, range, ap (λ (v : Verdict). started-by v (t .table) s .cache) e)
 ready-fresh t g s c (sold e) =
-    let p : log-start-verdict t s ≡ Passed = rw (← offer-tariff t g) (start-passed (offer-of g) s .0 e .0) in
-    let (a, range) = log-start-passed t (given-priced t g) s p in
+    let p : log-start-verdict t (setup-in s) ≡ Passed = rw (← offer-tariff t g) (start-passed (offer-of g) (setup-in s) .0 e .0) in
+    let (a, range) = log-start-passed t (given-priced t g) (setup-in s) p in
     (a, range, ap (λ (v : Verdict). started-by v (offer-of g .tariff .table) s .cache) e ∙ ap (λ (x : Tariff). fresh (x .table) s) (offer-tariff t g))
 
 -- THE ONLINE HALF: for every start that is not refused, with a price file or without, and every list of scan and close calls, refused ones included
-pub online-within-three : (t : Tariff) (g : Given t) (s : Setup) (c : Cache) → Ready t g s c → (calls : List Call) → Claim (t .table) s c calls
+pub online-within-three : (t : Tariff) (g : Given t) (s : Header) (c : Cache) → Ready t g s c → (calls : List Call) → Claim (t .table) s c calls
 online-within-three t g s c r calls =
     let (a, range, e) = ready-fresh t g s c r in
     rw e (claim (t .table) s a range calls)

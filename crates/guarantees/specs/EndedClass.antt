@@ -94,8 +94,8 @@ pub record Old-log (log : List ℕ) : Type 0 where
   pub prices-are : prices-in built-in log ≡ priced 1 1000000
   pub planned : (k : ℕ) → k ≤ request-count log → Planned-best built-in log k
   -- a cache that a program starts for it is within threefold, after every list of calls
-  pub started : Ready built-in none (setup-of log) (opened built-in log)
-  pub within : (calls : List Call) → Claim classes (setup-of log) (opened built-in log) calls
+  pub started : Ready built-in none (header-of log) (opened built-in log)
+  pub within : (calls : List Call) → Claim classes (header-of log) (opened built-in log) calls
   -- no other is started, and it is not written again
   pub unstarted : start-verdict built-in-offer (setup-of log) ≡ Refused no-longer-sold
   pub unwritten : (room : ℕ) → write-verdict built-in-offer (decode log) room ≡ Refused no-longer-sold
@@ -105,13 +105,13 @@ pub old-log : (log : List ℕ) → Sound log → class-of log ≡ 7 → Old-log 
 unfolding prices-in prices-of classes opened decode header-of
 old-log log sound e =
     let a : Accepted built-in log = sound-accepted built-in log refl (rw e seven) sound in
-    let ready : Ready built-in none (setup-of log) (opened built-in log) = for-log (starts built-in (given-priced built-in none) log a) in
+    let ready : Ready built-in none (header-of log) (opened built-in log) = for-log (starts built-in (given-priced built-in none) log a) in
     record {
       accepted = a;
       prices-are = rw e;
       planned = λ k h. planned-best built-in log k a h;
       started = ready;
-      within = λ calls. online-within-three built-in none (setup-of log) (opened built-in log) ready calls;
+      within = λ calls. online-within-three built-in none (header-of log) (opened built-in log) ready calls;
       unstarted = started-43 (setup-of log) .1 e;
       unwritten = λ room. written-43 (decode log) room .1 e;
     }

@@ -10,6 +10,7 @@ pub mod CheckerAccepts
 pub mod Sources
 pub mod Demand3
 pub mod Closes
+pub mod OneFile
 pub mod SheetColumns
 pub mod PriceFiles
 pub mod EndedClass

@@ -13,6 +13,7 @@ use Rattle.prices.specs.FileLaws.{built-in-file, loads-exactly}
 use Rattle.prices.specs.Tariff.{Tariff, built-in, price-file, Given}
 use Rattle.prices.specs.Offer.{file-offer}
 use Rattle.log.specs.declared.Setup.{Setup}
+use Rattle.log.specs.declared.Header.{Header}
 use Rattle.log.specs.Fields.{request-count}
 use Rattle.log.specs.Conditions.{Accepted, verdict-of}
 use Rattle.log.specs.Contents.{Contents}
@@ -83,9 +84,9 @@ pub record Demand-3 (t : Tariff) (g : Given t) : Type 0 where
   -- every log accepted with it, cut to its first requests
   pub planner : (log : List ℕ) (k : ℕ) → Accepted t log → k ≤ request-count log → Planned-best t log k
   -- every start that is not refused, of what is sold or for a log that there is, and every list of calls after it
-  pub online : (s : Setup) (c : Cache) → Ready t g s c → (calls : List Call) → Claim (t .table) s c calls
+  pub online : (s : Header) (c : Cache) → Ready t g s c → (calls : List Call) → Claim (t .table) s c calls
   -- every close among them that is not refused
-  pub closes : (s : Setup) (c : Cache) → Ready t g s c → (calls : List Call) (x : Taken-close c calls) → Closed-within t s c (x .before)
+  pub closes : (s : Header) (c : Cache) → Ready t g s c → (calls : List Call) (x : Taken-close c calls) → Closed-within t s c (x .before)
 
 -- DEMAND 3 FOR EVERY TABLE: with any price file, and without one
 pub demand-3 : (t : Tariff) (g : Given t) → Demand-3 t g

@@ -11,7 +11,7 @@ use Rattle.base.specs.declared.Verdict.the-variants.{Passed}
 use Rattle.prices.specs.Prices.{window}
 use Rattle.prices.specs.PriceLaws.{given-priced}
 use Rattle.prices.specs.Tariff.{Tariff, Given}
-use Rattle.log.specs.Fields.{setup-of, server-count, home-of, request-count, seconds-of, servers-of, header-of}
+use Rattle.log.specs.Fields.{id-of, setup-of, home-of, request-count, seconds-of, servers-of, header-of}
 use Rattle.log.specs.Conditions.{Accepted}
 use Rattle.log.specs.Contents.{Contents, decode, first-requests, cut}
 use Rattle.log.specs.Cutting.{cut-decodes}
@@ -70,13 +70,13 @@ least-column t log k a least most =
 
 -- ---- the live columns
 
--- the first k requests of a log, as scan calls after a start with what it says
+-- the first k requests of a log, as scan calls with its id after a start with what it says
 abbrev pub calls-of : List ℕ → ℕ → List Call
-calls-of log k = scans (seconds-of log) (servers-of log) k
+calls-of log k = scans (id-of log) (seconds-of log) (servers-of log) k
 
 -- what the call of request k answers, after those before it
 abbrev pub answer-of : Tariff → List ℕ → ℕ → Scanned
-answer-of t log k = scanned (run (opened t log) (calls-of log (k - 1))) (line-of t log k .second) (line-of t log k .server)
+answer-of t log k = scanned (run (opened t log) (calls-of log (k - 1))) (id-of log) (line-of t log k .second) (line-of t log k .server)
 
 pub record Live-columns (t : Tariff) (log : List ℕ) (k : ℕ) : Type 0 where
   -- neither the start nor any of the first k calls is refused
@@ -87,9 +87,9 @@ pub record Live-columns (t : Tariff) (log : List ℕ) (k : ℕ) : Type 0 where
   pub cost-is : line-of t log k .cost ≡ outcome-cost (answer-of t log k .outcome)
   pub running-is : line-of t log k .cost ≡ running (run (opened t log) (calls-of log k))
   -- demand 3's claim holds of these calls, and what they take are the requests of the cut log
-  pub claimed : Claim (t .table) (setup-of log) (opened t log) (calls-of log k)
-  pub taken-are : served (t .table) (setup-of log) (opened t log) (calls-of log k) ≡ requests-in (cut k log)
-  pub all-taken : served-count (t .table) (setup-of log) (opened t log) (calls-of log k) ≡ k
+  pub claimed : Claim (t .table) (header-of log) (opened t log) (calls-of log k)
+  pub taken-are : served (t .table) (header-of log) (opened t log) (calls-of log k) ≡ requests-in (cut k log)
+  pub all-taken : served-count (t .table) (header-of log) (opened t log) (calls-of log k) ≡ k
   -- so the running cost is at least the least cost that the line has, and at most three times that
   pub no-less : line-of t log k .least ≤ line-of t log k .cost
   pub no-more : line-of t log k .cost ≤ 3 * line-of t log k .least
@@ -97,40 +97,40 @@ pub record Live-columns (t : Tariff) (log : List ℕ) (k : ℕ) : Type 0 where
 module _ (t : Tariff) (g : Given t) (log : List ℕ) (k : ℕ) (a : Accepted t log) (h : k ≤ request-count log) where
   passed : verdicts (opened t log) (calls-of log k) ≡ replicate k Passed
   unfolding Runs
-  passed = scans-passed (opened t log) (seconds-of log) (servers-of log) k (λ i l. goes-on t (given-priced t g) log a i (omega arith))
+  passed = scans-passed (opened t log) (id-of log) (seconds-of log) (servers-of log) k (λ i l. goes-on t (given-priced t g) log a i (omega arith))
 
-  claim-of : Claim (t .table) (setup-of log) (opened t log) (calls-of log k)
-  unfolding opened
-  claim-of = online-within-three t g (setup-of log) (opened t log) (for-log (starts t (given-priced t g) log a)) (calls-of log k)
+  claim-of : Claim (t .table) (header-of log) (opened t log) (calls-of log k)
+  unfolding opened header-of
+  claim-of = online-within-three t g (header-of log) (opened t log) (for-log (starts t (given-priced t g) log a)) (calls-of log k)
 
-  list-of : taken (server-count log) begun (calls-of log k) ≡ build k (request (seconds-of log) (servers-of log))
-  list-of = scans-taken (server-count log) begun (seconds-of log) (servers-of log) k (sym (claim-of .refused) ∙ passed)
+  list-of : taken (header-of log) begun (calls-of log k) ≡ build k (request (id-of log) (seconds-of log) (servers-of log))
+  list-of = scans-taken (header-of log) begun (id-of log) (seconds-of log) (servers-of log) k (sym (claim-of .refused) ∙ passed)
 
-  served-is : served (t .table) (setup-of log) (opened t log) (calls-of log k) ≡ requests-in (cut k log)
+  served-is : served (t .table) (header-of log) (opened t log) (calls-of log k) ≡ requests-in (cut k log)
   unfolding decode first-requests header-of requests-in
   served-is =
       ap (requests-of (home-of log)) list-of
-      ∙ requests-taken (home-of log) k (seconds-of log) (servers-of log) (omega (arith, seconds-length log)) (omega (arith, servers-length log))
+      ∙ requests-taken (home-of log) k (id-of log) (seconds-of log) (servers-of log) (omega (arith, seconds-length log)) (omega (arith, servers-length log))
       ∙ sym (ap (λ (c : Contents). requests (c .header .home) (c .seconds) (c .servers)) (cut-decodes t log k a h))
 
-  count-is : served-count (t .table) (setup-of log) (opened t log) (calls-of log k) ≡ k
-  count-is = ap length list-of ∙ build-length k (request (seconds-of log) (servers-of log))
+  count-is : served-count (t .table) (header-of log) (opened t log) (calls-of log k) ≡ k
+  count-is = ap length list-of ∙ build-length k (request (id-of log) (seconds-of log) (servers-of log))
 
   -- a claim's least cost is that of the cut log's plan
-  least-of : (x : Claim (t .table) (setup-of log) (opened t log) (calls-of log k)) → x .least ≡ plan-cost (prices-in t (cut k log)) (requests-in (cut k log)) k
-  unfolding prices-in
+  least-of : (x : Claim (t .table) (header-of log) (opened t log) (calls-of log k)) → x .least ≡ plan-cost (prices-in t (cut k log)) (requests-in (cut k log)) k
+  unfolding prices-in header-of
   least-of x = x .is-planned ∙ rw (served-is, count-is, cut-prices t log k a h)
 
 module _ (t : Tariff) (g : Given t) (log : List ℕ) (i : ℕ) (a : Accepted t log) (h : i < request-count log) where
   -- the line of request i, from 0
-  turn-is : turn (run (opened t log) (calls-of log i)) (getD (seconds-of log) i 0) (getD (servers-of log) i 0)
+  turn-is : turn (run (opened t log) (calls-of log i)) (id-of log) (getD (seconds-of log) i 0) (getD (servers-of log) i 0)
       ≡ record {
         cache = run (opened t log) (calls-of log (suc i));
-        mark = live-mark (opened t log) (seconds-of log) (servers-of log) i;
-        cost = live-cost (opened t log) (seconds-of log) (servers-of log) i;
+        mark = live-mark (opened t log) (id-of log) (seconds-of log) (servers-of log) i;
+        cost = live-cost (opened t log) (id-of log) (seconds-of log) (servers-of log) i;
       }
   unfolding state-after
-  turn-is = turn-next (opened t log) (seconds-of log) (servers-of log) i (run (opened t log) (calls-of log i)) refl (goes-on t (given-priced t g) log a i h)
+  turn-is = turn-next (opened t log) (id-of log) (seconds-of log) (servers-of log) i (run (opened t log) (calls-of log i)) refl (goes-on t (given-priced t g) log a i h)
 
 -- THE SHEET'S LIVE COLUMNS
 pub live-columns : (t : Tariff) → Given t → (log : List ℕ) (k : ℕ) → Accepted t log → 1 ≤ k → k ≤ request-count log → Live-columns t log k
@@ -138,10 +138,10 @@ unfolding entry-of columns-of live-marks running-costs live-cost state-after tur
 live-columns t g log zero a least most = absurd (omega arith)
 live-columns t g log (suc i) a least most =
     let e : suc i - 1 ≡ i = omega arith in
-    let mark : getD (live-marks t log) i 0 ≡ live-mark (opened t log) (seconds-of log) (servers-of log) i =
-    build-at (request-count log) (live-mark (opened t log) (seconds-of log) (servers-of log)) i 0 most in
-    let cost : getD (running-costs t log) i 0 ≡ live-cost (opened t log) (seconds-of log) (servers-of log) i =
-    build-at (request-count log) (live-cost (opened t log) (seconds-of log) (servers-of log)) i 0 most in
+    let mark : getD (live-marks t log) i 0 ≡ live-mark (opened t log) (id-of log) (seconds-of log) (servers-of log) i =
+    build-at (request-count log) (live-mark (opened t log) (id-of log) (seconds-of log) (servers-of log)) i 0 most in
+    let cost : getD (running-costs t log) i 0 ≡ live-cost (opened t log) (id-of log) (seconds-of log) (servers-of log) i =
+    build-at (request-count log) (live-cost (opened t log) (id-of log) (seconds-of log) (servers-of log)) i 0 most in
     let x = turn-is t g log i a most in
     let claim = claim-of t g log (suc i) a most in
     let column : claim .least ≡ line-of t log (suc i) .least = least-of t g log (suc i) a most claim ∙ sym (least-column t log (suc i) a least most .least-is) in
@@ -177,11 +177,11 @@ pub record Close-line (t : Tariff) (log : List ℕ) : Type 0 where
 
 -- THE SHEET'S LAST LINE
 pub close-line : (t : Tariff) → Given t → (log : List ℕ) → Accepted t log → Close-line t log
-unfolding closing-cost state-after scans build run opened prices-in
+unfolding closing-cost state-after scans build run opened prices-in header-of
 close-line t g log a =
     let n = request-count log in
     let passes : close-verdict (run (opened t log) (all-calls log)) ≡ Passed = closes t (given-priced t g) log a in
-    let w = close-within t g (setup-of log) (opened t log) (for-log (starts t (given-priced t g) log a)) (all-calls log) passes in
+    let w = close-within t g (header-of log) (opened t log) (for-log (starts t (given-priced t g) log a)) (all-calls log) passes in
     let least : w .claimed .least ≡ getD (least-costs t log) n 0 =
     least-of t g log n a (omega arith) (w .claimed) ∙ sym (planned-best t log n a (omega arith) .least-is) in
     record {
@@ -189,5 +189,5 @@ close-line t g log a =
       answers = w .answers;
       no-less = w .no-less;
       no-more = omega (arith, w .no-more, least);
-      empty = λ e. rw e (close-at-once t g (setup-of log) (opened t log) (for-log (starts t (given-priced t g) log a)));
+      empty = λ e. rw e (close-at-once t g (header-of log) (opened t log) (for-log (starts t (given-priced t g) log a)));
     }

@@ -1,18 +1,18 @@
 -- A worked week of 01: what is handed in, what 01 and 02 say of it, and the test that the definitions say the same. Assumes nothing.
-use mathlib.Core.Bool.{Bool, true, false}
+use mathlib.Core.Bool.{Bool, true}
 use mathlib.Core.List.{List, [], _∷_}
 use Prim.Native.Nat.{ℕ, suc}
 use Prim.Native.String.{String}
 use lib.Dec.{eqb}
-use lib.ListN.{length, replicate}
+use lib.ListN.{length}
 use Rattle.base.specs.Choice.{pick, both}
-use Rattle.base.specs.Lists.{build}
+use Rattle.base.specs.Lists.{build, same}
 use Rattle.base.specs.declared.Verdict.{Verdict}
 use Rattle.base.specs.declared.Verdict.the-variants.{Passed, Refused}
 use Rattle.prices.specs.Prices.{classes, prices-of}
 use Rattle.prices.specs.Tariff.{built-in}
 use Rattle.prices.specs.Offer.{built-in-offer}
-use Rattle.log.specs.declared.Setup.{Setup}
+use Rattle.log.specs.declared.Header.{Header}
 use Rattle.log.specs.Conditions.{verdict-of}
 use Rattle.log.specs.Contents.{contents, encode}
 use Rattle.model.specs.Requests.{Requests, requests}
@@ -35,7 +35,7 @@ use Rattle.report.specs.Output.{output}
 
 -- the requests of a week: what its start is given, seconds and servers
 pub record Given : Type 0 where
-  pub setup : Setup
+  pub header : Header
   pub seconds : List ℕ
   pub servers : List ℕ
 
@@ -52,13 +52,6 @@ pub data Week : Type 0 where
   tied : Given → (cost count : ℕ) → Week
   printed : Given → (text : String) → Week
 
--- two lists of numbers are equal
-unfoldable pub same : List ℕ → List ℕ → Bool
-same [] [] = true
-same [] (y ∷ ys) = false
-same (x ∷ xs) [] = false
-same (x ∷ xs) (y ∷ ys) = both (eqb x y) (same xs ys)
-
 -- a verdict as number and place, 0 and 0 where nothing is refused
 unfoldable pub as-numbers : Verdict → List ℕ
 as-numbers Passed = 0 ∷ 0 ∷ []
@@ -71,7 +64,7 @@ answer-numbers (answer.Refused r) = r .number ∷ r .place ∷ 0 ∷ []
 
 -- the requests of a week
 unfoldable pub requests-given : Given → Requests
-requests-given g = requests (g .setup .home) (g .seconds) (g .servers)
+requests-given g = requests (g .header .home) (g .seconds) (g .servers)
 
 -- the letter of a scan's answer; 0 for a refusal
 unfoldable pub live-letter : ScanOutcome → ℕ
@@ -81,55 +74,57 @@ live-letter (scan.Refused r) = 0
 
 -- the least cost of the first 0, 1, 2, .. requests
 unfoldable pub least-so-far : Given → List ℕ
-least-so-far g = build (suc (length (g .seconds))) (λ k. plan-cost (prices-of classes (g .setup .«class»)) (requests-given g) k)
+least-so-far g = build (suc (length (g .seconds))) (λ k. plan-cost (prices-of classes (g .header .«class»)) (requests-given g) k)
 
 -- the marks of the plan over the whole week
 unfoldable pub plan-letters : Given → List ℕ
 plan-letters g =
-    let m = plan (prices-of classes (g .setup .«class»)) (requests-given g) (length (g .seconds)) in
+    let m = plan (prices-of classes (g .header .«class»)) (requests-given g) (length (g .seconds)) in
     build (length (g .seconds)) (λ k. letter (m (suc k)))
 
 -- the numbers of the plan's rows
 unfoldable pub plan-numbers : Given → List ℕ
-plan-numbers g = flat (plan-rows (prices-of classes (g .setup .«class»)) (requests-given g) (g .setup .«server_count») (length (g .seconds)))
+plan-numbers g = flat (plan-rows (prices-of classes (g .header .«class»)) (requests-given g) (g .header .«server_count») (length (g .seconds)))
 
 -- the running cost of a state and after each request served from it; the closing cost in the end; the mark of each request
-unfoldable pub costs-from : Cache → List ℕ → List ℕ → List ℕ
-costs-from c (t ∷ ts) (x ∷ xs) = running c ∷ costs-from (scanned c t x .cache) ts xs
-costs-from c [] xs = running c ∷ []
-costs-from c (t ∷ ts) [] = running c ∷ []
+unfoldable pub costs-from : Cache → List ℕ → List ℕ → List ℕ → List ℕ
+costs-from c id (t ∷ ts) (x ∷ xs) = running c ∷ costs-from (scanned c id t x .cache) id ts xs
+costs-from c id [] xs = running c ∷ []
+costs-from c id (t ∷ ts) [] = running c ∷ []
 
-unfoldable pub close-after : Cache → List ℕ → List ℕ → ℕ
-close-after c (t ∷ ts) (x ∷ xs) = close-after (scanned c t x .cache) ts xs
-close-after c [] xs = close-cost (closed-answer c .outcome)
-close-after c (t ∷ ts) [] = close-cost (closed-answer c .outcome)
+unfoldable pub close-after : Cache → List ℕ → List ℕ → List ℕ → ℕ
+close-after c id (t ∷ ts) (x ∷ xs) = close-after (scanned c id t x .cache) id ts xs
+close-after c id [] xs = close-cost (closed-answer c .outcome)
+close-after c id (t ∷ ts) [] = close-cost (closed-answer c .outcome)
 
-unfoldable pub letters-from : Cache → List ℕ → List ℕ → List ℕ
-letters-from c (t ∷ ts) (x ∷ xs) = let a = scanned c t x in live-letter (a .outcome) ∷ letters-from (a .cache) ts xs
-letters-from c [] xs = []
-letters-from c (t ∷ ts) [] = []
+unfoldable pub letters-from : Cache → List ℕ → List ℕ → List ℕ → List ℕ
+letters-from c id (t ∷ ts) (x ∷ xs) = let a = scanned c id t x in live-letter (a .outcome) ∷ letters-from (a .cache) id ts xs
+letters-from c id [] xs = []
+letters-from c id (t ∷ ts) [] = []
 
--- the log of a week, with an id of zeros
+-- the state of its start
+unfoldable pub start-of : Given → Cache
+start-of g = started built-in-offer (g .header) .cache
+
+-- the log of a week
 unfoldable pub log-of : Given → List ℕ
-log-of g =
-    let s = g .setup in
-    encode (contents (record { «class» = s .«class»; «server_count» = s .«server_count»; home = s .home; id = replicate 16 0 }) (g .seconds) (g .servers))
+log-of g = encode (contents (g .header) (g .seconds) (g .servers))
 
 -- what the definitions say of a week is what 01 says
 unfoldable pub right : Week → Bool
 right (planned g least costs closing marks live rows) =
     both (same (least-so-far g) least)
-    (both (same (costs-from (started built-in-offer (g .setup) .cache) (g .seconds) (g .servers)) costs)
-    (both (eqb (close-after (started built-in-offer (g .setup) .cache) (g .seconds) (g .servers)) closing)
+    (both (same (costs-from (start-of g) (g .header .id) (g .seconds) (g .servers)) costs)
+    (both (eqb (close-after (start-of g) (g .header .id) (g .seconds) (g .servers)) closing)
     (both (same (plan-letters g) marks)
-    (both (same (letters-from (started built-in-offer (g .setup) .cache) (g .seconds) (g .servers)) live)
+    (both (same (letters-from (start-of g) (g .header .id) (g .seconds) (g .servers)) live)
     (same (plan-numbers g) rows)))))
 right (checked g rows number place c) = same (answer-numbers (check-answer built-in (log-of g) rows)) (number ∷ place ∷ c ∷ [])
 right (logged g number place) = same (as-numbers (verdict-of built-in (log-of g))) (number ∷ place ∷ [])
 right (tied g c n) =
     let q = requests-given g in
     let k = length (g .seconds) in
-    eqb (total (λ m. pick (eqb (cost (prices-of classes (g .setup .«class»)) q m k) c) 1 0) (markings q k)) n
+    eqb (total (λ m. pick (eqb (cost (prices-of classes (g .header .«class»)) q m k) c) 1 0) (markings q k)) n
 right (printed g text) = same (output built-in (log-of g)) (ascii text)
 
 -- every week of a table is right

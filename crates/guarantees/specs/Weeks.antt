@@ -3,13 +3,14 @@ use mathlib.Core.Bool.{true}
 use mathlib.Core.List.{List, [], _∷_, _++_}
 use mathlib.Core.Path.{_≡_, refl}
 use Prim.Native.Nat.{ℕ}
-use Rattle.base.specs.Lists.{build}
+use lib.ListN.{replicate}
+use Rattle.base.specs.Lists.{build, same}
 use Rattle.base.specs.Refusals.{first, each}
 use Rattle.base.specs.Sets.{has, put, lowest}
 use Rattle.base.specs.Nearest.{distance, none-nearer, nearest}
 use Rattle.prices.specs.Prices.{classes, prices-of, outside, window}
 use Rattle.checksum.specs.Sum.{sum-from, sum-of}
-use Rattle.log.specs.Fields.{version, class-of, server-count, home-of, request-count, requests-offset, id-offset, total-length, written-sum, length-for, seconds-of, servers-of}
+use Rattle.log.specs.Fields.{version, class-of, server-count, home-of, request-count, requests-offset, id-offset, id-of, total-length, written-sum, length-for, header-of, seconds-of, servers-of}
 use Rattle.log.specs.Conditions.{setup-conditions, offered-conditions, header-conditions, before, request-conditions, log-conditions, verdict-of}
 use Rattle.log.specs.Contents.{head, request-bytes, requests-bytes, body, encode}
 use Rattle.model.specs.Sums.{sum, total}
@@ -36,7 +37,7 @@ use Rattle.report.specs.Live.{scans, state-after, live-mark, live-cost, opened,
 use Rattle.report.specs.Replies.{close-cost}
 use Rattle.report.specs.Sheet.{columns-of, sheet-of}
 use Rattle.report.specs.Output.{output-by, output}
-use Rattle.guarantees.specs.Week.{Given, Week, planned, checked, logged, tied, printed, same, as-numbers, answer-numbers, requests-given, live-letter, least-so-far, plan-letters, plan-numbers, costs-from, close-after, letters-from, log-of, right, all-right}
+use Rattle.guarantees.specs.Week.{Given, Week, planned, checked, logged, tied, printed, as-numbers, answer-numbers, requests-given, live-letter, least-so-far, plan-letters, plan-numbers, costs-from, close-after, letters-from, start-of, log-of, right, all-right}
 
 -- K and S
 abbrev k : ℕ
@@ -45,9 +46,10 @@ k = 75
 abbrev s : ℕ
 s = 83
 
+-- a week of a class at so many servers, home 0, with an id of zeros
 abbrev given : ℕ → ℕ → List ℕ → List ℕ → Given
 given class′ count ts xs =
-    record { setup = record { «class» = class′; «server_count» = count; home = 0 }; seconds = ts; servers = xs }
+    record { header = record { «class» = class′; «server_count» = count; home = 0; id = replicate 16 0 }; seconds = ts; servers = xs }
 
 -- A no requests; B 002's example times ten; C, and that two other markings cost the same; D; E; F class 6
 -- G a cycle with no copy behind it, and with one; H the last second; I equal seconds
@@ -91,7 +93,7 @@ own-weeks =
 
 -- every line of the table holds
 pub weeks-right : all-right (weeks ++ own-weeks) ≡ true
-unfolding weeks own-weeks all-right right same as-numbers answer-numbers requests-in prices-in check-conditions check-verdict-of checked-by check-answer requests-given letter live-letter least-so-far plan-letters plan-numbers costs-from close-after letters-from close-cost log-of build first each has put lowest distance none-nearer nearest classes prices-of outside window version class-of server-count home-of request-count requests-offset id-offset total-length written-sum length-for seconds-of servers-of sum-from sum-of setup-conditions offered-conditions header-conditions before request-conditions log-conditions verdict-of head request-bytes requests-bytes body encode sum total requests latest previous length-of is-transfer cost-of reach arrive through reached rounds standing stands numbers flat row-of row-at rows-upto rows-of fits earlier follows keeps some? legal gap begin after spans any covered holds own cost begins-run run-end hold-rows all-holds transfers source rows-from rows put-mark markings first-least least-of plan plan-cost plan-rows row-count misfits misplaced row-conditions backed copy-condition serve-condition schedule-conditions check-cost across set-of some-server window-of copy-at use-at fresh lasts kept uses stands-after next-use seconds accept running remaining closing any-of server-broken broken scan-conditions close-conditions start-verdict log-start-verdict started-by started started-for-log scan-verdict scanned-by scanned mark-outcome close-verdict closed-by closed-answer marks-of planned-rows least-costs after-call run digits decimal ascii line-end line list-word refusal-text heading entry-line entry-lines figure-line sheet-text entry-of scans state-after live-mark live-cost opened live-marks running-costs closing-cost columns-of sheet-of output-by output
+unfolding weeks own-weeks all-right right same as-numbers answer-numbers requests-in prices-in check-conditions check-verdict-of checked-by check-answer requests-given letter live-letter least-so-far plan-letters plan-numbers costs-from close-after letters-from close-cost start-of log-of build first each has put lowest distance none-nearer nearest classes prices-of outside window version class-of server-count home-of request-count requests-offset id-offset total-length written-sum length-for id-of header-of seconds-of servers-of sum-from sum-of setup-conditions offered-conditions header-conditions before request-conditions log-conditions verdict-of head request-bytes requests-bytes body encode sum total requests latest previous length-of is-transfer cost-of reach arrive through reached rounds standing stands numbers flat row-of row-at rows-upto rows-of fits earlier follows keeps some? legal gap begin after spans any covered holds own cost begins-run run-end hold-rows all-holds transfers source rows-from rows put-mark markings first-least least-of plan plan-cost plan-rows row-count misfits misplaced row-conditions backed copy-condition serve-condition schedule-conditions check-cost across set-of some-server window-of copy-at use-at fresh lasts kept uses stands-after next-use seconds accept running remaining closing any-of server-broken broken scan-conditions close-conditions start-verdict log-start-verdict started-by started started-for-log scan-verdict scanned-by scanned mark-outcome close-verdict closed-by closed-answer marks-of planned-rows least-costs after-call run digits decimal ascii line-end line list-word refusal-text heading entry-line entry-lines figure-line sheet-text entry-of scans state-after live-mark live-cost opened live-marks running-costs closing-cost columns-of sheet-of output-by output
 weeks-right = refl
 
 -- the two windows that 01's 'Prices' names: of class 4 and of class 6

@@ -9,7 +9,9 @@ use Rattle.prices.specs.declared.Prices.{Prices}
 use Rattle.prices.specs.Tariff.{Tariff}
 use Rattle.prices.specs.Offer.{Offer}
 use Rattle.log.specs.declared.Setup.{Setup}
+use Rattle.log.specs.declared.Header.{Header}
 use Rattle.log.specs.Conditions.{setup-conditions, offered-conditions}
+use Rattle.log.specs.Contents.{setup-in}
 use Rattle.online.specs.declared.Cache.{Cache}
 use Rattle.online.specs.declared.StartOutcome.the-variants as start
 use Rattle.online.specs.declared.Started.{Started}
@@ -32,8 +34,8 @@ unfoldable pub log-start-verdict : Tariff → Setup → Verdict
 log-start-verdict t s = otherwise (t .judged) (first (setup-conditions (t .table) s))
 
 -- what refuses a scan
-unfoldable pub scan-verdict : Cache → ℕ → ℕ → Verdict
-scan-verdict c second server = first (scan-conditions c second server)
+unfoldable pub scan-verdict : Cache → List ℕ → ℕ → ℕ → Verdict
+scan-verdict c id second server = first (scan-conditions c id second server)
 
 -- what refuses to say the running cost
 unfoldable pub running-verdict : Cache → Verdict
@@ -44,17 +46,17 @@ unfoldable pub close-verdict : Cache → Verdict
 close-verdict c = first (close-conditions c)
 
 -- a start by its verdict: ready, or refused with a state of zeros
-unfoldable pub started-by : Verdict → List Prices → Setup → Started
-started-by Passed table s = record { cache = fresh table s; outcome = start.Ready }
-started-by (Refused r) table s = record { cache = zeros; outcome = start.Refused r }
+unfoldable pub started-by : Verdict → List Prices → Header → Started
+started-by Passed table h = record { cache = fresh table h; outcome = start.Ready }
+started-by (Refused r) table h = record { cache = zeros; outcome = start.Refused r }
 
--- a start
-unfoldable pub started : Offer → Setup → Started
-started o s = started-by (start-verdict o s) (o .tariff .table) s
+-- a start, by what a log's header says; of that the id has no part in the verdict
+unfoldable pub started : Offer → Header → Started
+started o h = started-by (start-verdict o (setup-in h)) (o .tariff .table) h
 
 -- a start for a log that there is
-unfoldable pub started-for-log : Tariff → Setup → Started
-started-for-log t s = started-by (log-start-verdict t s) (t .table) s
+unfoldable pub started-for-log : Tariff → Header → Started
+started-for-log t h = started-by (log-start-verdict t (setup-in h)) (t .table) h
 
 -- K, or S from the last server, with a cost
 unfoldable pub mark-outcome : Cache → ℕ → ℕ → ℕ → ScanOutcome
@@ -67,8 +69,8 @@ scanned-by Passed c second server =
 scanned-by (Refused r) c second server = record { cache = c; outcome = scan.Refused r }
 
 -- a scan
-unfoldable pub scanned : Cache → ℕ → ℕ → Scanned
-scanned c second server = scanned-by (scan-verdict c second server) c second server
+unfoldable pub scanned : Cache → List ℕ → ℕ → ℕ → Scanned
+scanned c id second server = scanned-by (scan-verdict c id second server) c second server
 
 -- the running cost by its verdict
 unfoldable pub running-by : Verdict → Cache → RunningCost

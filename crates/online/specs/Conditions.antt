@@ -4,6 +4,7 @@ use mathlib.Core.List.{List, [], _∷_}
 use Prim.Native.Nat.{ℕ, _+_}
 use lib.Dec.{leb, ltb, eqb}
 use Rattle.base.specs.Choice.{both, either}
+use Rattle.base.specs.Lists.{same}
 use Rattle.base.specs.Refusals.{Condition, refuse}
 use Rattle.prices.specs.Prices.{outside}
 use Rattle.online.specs.declared.Cache.{Cache}
@@ -49,13 +50,15 @@ faults c =
 unfoldable pub broken : Cache → Bool
 broken c = any-of (faults c)
 
--- a scan: 11 and 12 for its server and second; 32; 33 closed; 34 no room for one more request; 35 a second that is not later
-unfoldable pub scan-conditions : Cache → ℕ → ℕ → List Condition
-scan-conditions c second server =
+-- a scan: 11 and 12 for its server and second; 32; 33 closed; 39 an id that is not the state's; 34 no room for one more request; 35 a second that is not
+-- later
+unfoldable pub scan-conditions : Cache → List ℕ → ℕ → ℕ → List Condition
+scan-conditions c id second server =
     refuse 11 0 (leb (c .«server_count») server)
     ∷ refuse 12 0 (either (eqb second 0) (ltb 4000000 second))
     ∷ refuse 32 0 (broken c)
     ∷ refuse 33 0 (c .closed)
+    ∷ refuse 39 0 (not (same id (c .id)))
     ∷ refuse 34 0 (leb 2048 (c .requests))
     ∷ refuse 35 0 (leb second (c .second))
     ∷ []

@@ -1,13 +1,15 @@
 -- What a start, a scan and a close have that are not refused.
 use mathlib.Core.Bool.{true, false}
 use mathlib.Core.Logic.{_≢_, _↔_}
+use mathlib.Core.List.{List}
 use mathlib.Core.Path.{_≡_, ap, _∙_}
 use native.Mathlib.Omega.{arith}
 use Prim.Native.Nat.{ℕ, _≤_, _<_}
 use lib.Dec.{ltb, eqb}
 use lib.ListN.{length}
-use borrow.Author.Tests.{leb-false, ltb-false, eqb-false}
+use borrow.Author.Tests.{leb-false, ltb-false, eqb-false, not-false}
 use Rattle.base.specs.ChoiceLaws.{either-false}
+use Rattle.base.specs.Lists.{same-equal}
 use Rattle.base.specs.Refusals.{first, otherwise, Never}
 use Rattle.base.specs.NumberLaws.{otherwise-never}
 use Rattle.base.specs.RefusalLaws.{first-passed, otherwise-passed}
@@ -82,10 +84,10 @@ pub record Fit (c : Cache) (second server : ℕ) : Type 0 where
   pub later : c .second < second
 
 -- they have these
-pub scan-passed : (c : Cache) (second server : ℕ) → scan-verdict c second server ≡ Passed → Fit c second server
+pub scan-passed : (c : Cache) (id : List ℕ) (second server : ℕ) → scan-verdict c id second server ≡ Passed → Fit c second server
 unfolding scan-verdict scan-conditions
-scan-passed c second server e =
-    let f = first-passed (scan-conditions c second server) .0 e in
+scan-passed c id second server e =
+    let f = first-passed (scan-conditions c id second server) .0 e in
     let n = either-false (eqb second 0) (ltb 4000000 second) (f 1) in
     record {
       counted = leb-false _ _ (f 0);
@@ -93,9 +95,14 @@ scan-passed c second server e =
       second-most = ltb-false _ _ (n .1);
       intact = unbroken-intact c (f 2);
       not-closed = f 3;
-      room = leb-false _ _ (f 4);
-      later = leb-false _ _ (f 5);
+      room = leb-false _ _ (f 5);
+      later = leb-false _ _ (f 6);
     }
+
+-- and it came with the state's id
+pub scan-own : (c : Cache) (id : List ℕ) (second server : ℕ) → scan-verdict c id second server ≡ Passed → id ≡ c .id
+unfolding scan-verdict scan-conditions
+scan-own c id second server e = same-equal id (c .id) (not-false _ (first-passed (scan-conditions c id second server) .0 e 4))
 
 -- the state of a running cost that is not refused: intact
 pub running-passed : (c : Cache) → running-verdict c ≡ Passed → Intact c

@@ -3,13 +3,13 @@ use mathlib.Core.Bool.{Bool, true, false}
 use mathlib.Core.List.{List}
 use Prim.Native.Nat.{ℕ, suc, _+_, _-_, _*_, min}
 use lib.Dec.{leb, eqb}
-use lib.ListN.{getD}
+use lib.ListN.{getD, replicate}
 use Rattle.base.specs.Choice.{pick, both, either}
 use Rattle.base.specs.Sets.{has}
 use Rattle.base.specs.Lists.{build}
 use Rattle.prices.specs.declared.Prices.{Prices}
 use Rattle.prices.specs.Prices.{priced, prices-of, window}
-use Rattle.log.specs.declared.Setup.{Setup}
+use Rattle.log.specs.declared.Header.{Header}
 use Rattle.online.specs.declared.Cache.{Cache}
 use Rattle.online.specs.Servers.{across, set-of}
 
@@ -29,16 +29,17 @@ use-at c y = getD (c .«last_use») y 0
 
 -- ---- a start
 
--- the prices of the class, the copy at home, last use 0, home as last server, last second 0, no requests, transfers or held seconds, not closed
-unfoldable pub fresh : List Prices → Setup → Cache
-fresh table s =
+-- the prices of the class, the file's id, the copy at home, last use 0, home as last server, last second 0, no requests, transfers or held seconds, not closed
+unfoldable pub fresh : List Prices → Header → Cache
+fresh table h =
     record {
-      prices = prices-of table (s .«class»);
-      «server_count» = s .«server_count»;
-      last = s .home;
+      prices = prices-of table (h .«class»);
+      id = h .id;
+      «server_count» = h .«server_count»;
+      last = h .home;
       second = 0;
       «last_use» = build 64 (λ y. 0);
-      holders = set-of 64 (λ y. eqb y (s .home));
+      holders = set-of 64 (λ y. eqb y (h .home));
       requests = 0;
       transfers = 0;
       held = 0;
@@ -50,6 +51,7 @@ unfoldable pub zeros : Cache
 zeros =
     record {
       prices = priced 0 0;
+      id = replicate 16 0;
       «server_count» = 0;
       last = 0;
       second = 0;
@@ -93,6 +95,7 @@ unfoldable pub accept : Cache → ℕ → ℕ → Cache
 accept c τ x =
     record {
       prices = c .prices;
+      id = c .id;
       «server_count» = c .«server_count»;
       last = x;
       second = τ;
@@ -124,6 +127,7 @@ unfoldable pub shut : Cache → Cache
 shut c =
     record {
       prices = c .prices;
+      id = c .id;
       «server_count» = c .«server_count»;
       last = c .last;
       second = c .second;

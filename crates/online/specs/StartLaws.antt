@@ -18,27 +18,29 @@ use Rattle.prices.specs.declared.Prices.{Prices}
 use Rattle.prices.specs.Prices.{prices-of}
 use Rattle.prices.specs.Tariff.{tariff}
 use Rattle.prices.specs.Offer.{Offer, offer}
-use Rattle.log.specs.declared.Setup.{Setup}
+use Rattle.log.specs.declared.Header.{Header}
 use Rattle.log.specs.Conditions.{setup-conditions, offered-conditions}
+use Rattle.log.specs.Contents.{setup-in}
 use Rattle.online.specs.declared.Started.{Started}
 use Rattle.online.specs.Answers.{start-verdict, log-start-verdict, started-by, started, started-for-log}
 use Rattle.online.specs.Servers.{set-of}
 
 -- something holds of each table in which the class has these prices
-abbrev pub With-prices : Prices → Setup → (List Prices → Type 0) → Type 0
-With-prices p s P = (table : List Prices) → p ≡ prices-of table (s .«class») → P table
+abbrev pub With-prices : Prices → Header → (List Prices → Type 0) → Type 0
+With-prices p h P = (table : List Prices) → p ≡ prices-of table (h .«class») → P table
 
 -- a start by what its price file was answered, and then the setup; of what is offered it asks only whether the one class has ended
-pub start-made : (w : Verdict) (ended : Bool) (o : Offer) (s : Setup) (x : Started) → ended ≡ o .ended (s .«class»)
-    → w ≡ from (o .tariff .judged) (offered-conditions (offer (o .tariff) (λ class. ended)) s) → x ≡ started-by w (o .tariff .table) s → x ≡ started o s
+pub start-made : (w : Verdict) (ended : Bool) (o : Offer) (h : Header) (x : Started) → ended ≡ o .ended (h .«class»)
+    → w ≡ from (o .tariff .judged) (offered-conditions (offer (o .tariff) (λ class. ended)) (setup-in h)) → x ≡ started-by w (o .tariff .table) h
+    → x ≡ started o h
 unfolding started start-verdict offered-conditions
-start-made w ended o s x g e f =
-    f ∙ ap (λ (u : Verdict). started-by u (o .tariff .table) s) (e ∙ from-otherwise (o .tariff .judged) _ ∙ rw g)
+start-made w ended o h x g e f =
+    f ∙ ap (λ (u : Verdict). started-by u (o .tariff .table) h) (e ∙ from-otherwise (o .tariff .judged) _ ∙ rw g)
 
-pub log-start-made : (v w : Verdict) (table : List Prices) (s : Setup) (x : Started) → w ≡ from v (setup-conditions table s) → x ≡ started-by w table s
-    → x ≡ started-for-log (tariff v table) s
+pub log-start-made : (v w : Verdict) (table : List Prices) (h : Header) (x : Started) → w ≡ from v (setup-conditions table (setup-in h))
+    → x ≡ started-by w table h → x ≡ started-for-log (tariff v table) h
 unfolding started-for-log log-start-verdict
-log-start-made v w table s x e f = f ∙ ap (λ (u : Verdict). started-by u table s) (e ∙ from-otherwise v (setup-conditions table s))
+log-start-made v w table h x e f = f ∙ ap (λ (u : Verdict). started-by u table h) (e ∙ from-otherwise v (setup-conditions table (setup-in h)))
 
 -- one more of the same at the end
 replicate-end : (n x : ℕ) → replicate n x ++ (x ∷ []) ≡ replicate (suc n) x

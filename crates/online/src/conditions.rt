@@ -9,6 +9,7 @@ ghost use Rattle.online.specs.Answers.{scan-verdict, running-verdict, cl
 ghost use Rattle.online.specs.Serving.{Outlines, With-use};
 ghost use Rattle.online.specs.Looked.{used-in};
 use crate::Cache;
+use crate::ids::differ;
 use crate::state::Outline;
 use crate::state::copy_at;
 use crate::state::expiry;
@@ -135,11 +136,21 @@ fn broken(cache: Cache, o: Outline) -> bool
     servers_broken(cache, o)
 }
 
-// What refuses a scan: 11, 12, 32 to 35.
-pub(crate) fn scan_fault(cache: Cache, o: Outline, second: u32, server: u16) -> Verdict
+// What refuses a scan: 11, 12, 32, 33, 39, 34, 35.
+pub(crate) fn scan_fault(
+    cache: Cache,
+    o: Outline,
+    id: [u8; 16],
+    second: u32,
+    server: u16,
+) -> Verdict
     requires { ⌜ Outlines cache o ⌝ }
-    ensures { λ r. ⌜ r ≡ scan-verdict cache second server ⌝ }
+    ensures { λ r. ⌜ r ≡ scan-verdict cache id second server ⌝ }
 {
+    let own = cache.id;
+    let other = differ(id, own);
+    let full = 2048 <= cache.requests;
+    let late = second <= cache.second;
     let v = or_else(
         Verdict::Passed,
         u16_from_u8(cache.server_count) <= server,
@@ -149,8 +160,9 @@ pub(crate) fn scan_fault(cache: Cache, o: Outline, second: u32, server: u16) -> 
     let v = or_else(v, outside(second, 4000000), 12, 0);
     let v = or_else(v, broken(cache, o), 32, 0);
     let v = or_else(v, cache.closed, 33, 0);
-    let v = or_else(v, 2048 <= cache.requests, 34, 0);
-    or_else(v, second <= cache.second, 35, 0)
+    let v = or_else(v, other, 39, 0);
+    let v = or_else(v, full, 34, 0);
+    or_else(v, late, 35, 0)
 }
 
 // What refuses to say the running cost: 32.

@@ -1,6 +1,7 @@
 // The online cache (01: the live keeper): its state and its answers. The calls are in start, scan, running and close.
 mod close;
 mod conditions;
+mod ids;
 mod running;
 mod scan;
 mod start;
@@ -14,6 +15,8 @@ use prices::Prices;
 pub struct Cache {
     // the hold and the transfer price (01: keep and send)
     pub prices: Prices,
+    // the id of the file that it serves (01: pass id)
+    pub id: [u8; 16],
     // the number of servers (01: stations)
     pub server_count: u8,
     // the server of the last request (01: scan), home before any

@@ -163,8 +163,10 @@ fn accept(cache: Cache, o: Outline, q: Served) -> Cache
         left = cut(left, y);
     }
     let prices = cache.prices;
+    let id = cache.id;
     Cache {
         prices,
+        id,
         server_count: cache.server_count,
         last: q.server,
         second: q.second,
@@ -191,12 +193,12 @@ fn mark(o: Outline, q: Served, cost: u64) -> ScanOutcome
 }
 
 impl Cache {
-    // The request's mark with the running cost after it, and the next state, or 11, 12, 32 to 35 and the same state.
-    pub fn scan(self, second: u32, server: u16) -> Scanned
-        ensures { λ r. ⌜ r ≡ scanned self second server ⌝ }
+    // The request's mark with the running cost after it, and the next state, or 11, 12, 32, 33, 39, 34, 35 and the same state.
+    pub fn scan(self, id: [u8; 16], second: u32, server: u16) -> Scanned
+        ensures { λ r. ⌜ r ≡ scanned self id second server ⌝ }
     {
         let o = outline_of(self);
-        let v = scan_fault(self, o, second, server);
+        let v = scan_fault(self, o, id, second, server);
         if let Verdict::Refused(r) = v {
             return Scanned {
                 cache: self,

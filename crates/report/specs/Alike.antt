@@ -42,19 +42,19 @@ sheet-alike c d n rows closing h k l m p q = ap (λ (e : ℕ → Entry). sheet-t
     same : (i : ℕ) → entry-of c i ≡ entry-of d i
     same i = rw (h i, k i, l i, m i, p (suc i), q i)
 
-module _ (c : Cache) (a b a′ b′ : List ℕ) (h : Alike a a′) (k : Alike b b′) where
+module _ (c : Cache) (id a b a′ b′ : List ℕ) (h : Alike a a′) (k : Alike b b′) where
   -- the state after requests
-  pub state-alike : (n : ℕ) → state-after c a b n ≡ state-after c a′ b′ n
+  pub state-alike : (n : ℕ) → state-after c id a b n ≡ state-after c id a′ b′ n
   unfolding state-after scans
   state-alike n =
-      ap (run c) (build-same n (λ i. scan (getD a i 0) (getD b i 0)) (λ i. scan (getD a′ i 0) (getD b′ i 0)) (λ i l. rw (h i, k i)))
+      ap (run c) (build-same n (λ i. scan id (getD a i 0) (getD b i 0)) (λ i. scan id (getD a′ i 0) (getD b′ i 0)) (λ i l. rw (h i, k i)))
 
   -- the marks
-  pub mark-alike : (i : ℕ) → live-mark c a b i ≡ live-mark c a′ b′ i
+  pub mark-alike : (i : ℕ) → live-mark c id a b i ≡ live-mark c id a′ b′ i
   unfolding live-mark
   mark-alike i = rw (state-alike i, h i, k i)
 
   -- the running costs
-  pub cost-alike : (i : ℕ) → live-cost c a b i ≡ live-cost c a′ b′ i
+  pub cost-alike : (i : ℕ) → live-cost c id a b i ≡ live-cost c id a′ b′ i
   unfolding live-cost
   cost-alike i = rw (state-alike (suc i))

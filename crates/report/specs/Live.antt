@@ -5,42 +5,42 @@ use lib.ListN.{getD}
 use Rattle.base.specs.Choice.{pick}
 use Rattle.base.specs.Lists.{build}
 use Rattle.prices.specs.Tariff.{Tariff}
-use Rattle.log.specs.Fields.{setup-of, request-count, seconds-of, servers-of}
+use Rattle.log.specs.Fields.{header-of, id-of, request-count, seconds-of, servers-of}
 use Rattle.online.specs.declared.Cache.{Cache}
 use Rattle.online.specs.Rules.{kept, running, closing}
 use Rattle.online.specs.Answers.{started-for-log}
 use Rattle.bounds.specs.Calls.{Call, scan, run}
 
--- the first k of some requests, as scan calls
-unfoldable pub scans : List ℕ → List ℕ → ℕ → List Call
-scans seconds servers k = build k (λ i. scan (getD seconds i 0) (getD servers i 0))
+-- the first k of some requests of a file, as scan calls
+unfoldable pub scans : List ℕ → List ℕ → List ℕ → ℕ → List Call
+scans id seconds servers k = build k (λ i. scan id (getD seconds i 0) (getD servers i 0))
 
 -- the state that they give back
-unfoldable pub state-after : Cache → List ℕ → List ℕ → ℕ → Cache
-state-after c seconds servers k = run c (scans seconds servers k)
+unfoldable pub state-after : Cache → List ℕ → List ℕ → List ℕ → ℕ → Cache
+state-after c id seconds servers k = run c (scans id seconds servers k)
 
 -- ---- marks and costs
 
 -- the mark of request i, from 0, as a letter: K if it is kept, else S
-unfoldable pub live-mark : Cache → List ℕ → List ℕ → ℕ → ℕ
-live-mark c seconds servers i = pick (kept (state-after c seconds servers i) (getD seconds i 0) (getD servers i 0)) 75 83
+unfoldable pub live-mark : Cache → List ℕ → List ℕ → List ℕ → ℕ → ℕ
+live-mark c id seconds servers i = pick (kept (state-after c id seconds servers i) (getD seconds i 0) (getD servers i 0)) 75 83
 
 -- the running cost after it
-unfoldable pub live-cost : Cache → List ℕ → List ℕ → ℕ → ℕ
-live-cost c seconds servers i = running (state-after c seconds servers (suc i))
+unfoldable pub live-cost : Cache → List ℕ → List ℕ → List ℕ → ℕ → ℕ
+live-cost c id seconds servers i = running (state-after c id seconds servers (suc i))
 
--- a start with what a log says
+-- a start with what a log says, its id too
 unfoldable pub opened : Tariff → List ℕ → Cache
-opened t log = started-for-log t (setup-of log) .cache
+opened t log = started-for-log t (header-of log) .cache
 
--- the marks of a log's requests
+-- the marks of a log's requests, which come with its id
 unfoldable pub live-marks : Tariff → List ℕ → List ℕ
-live-marks t log = build (request-count log) (live-mark (opened t log) (seconds-of log) (servers-of log))
+live-marks t log = build (request-count log) (live-mark (opened t log) (id-of log) (seconds-of log) (servers-of log))
 
 -- the running costs of its first requests
 unfoldable pub running-costs : Tariff → List ℕ → List ℕ
-running-costs t log = build (request-count log) (live-cost (opened t log) (seconds-of log) (servers-of log))
+running-costs t log = build (request-count log) (live-cost (opened t log) (id-of log) (seconds-of log) (servers-of log))
 
 -- the closing cost after all of them
 unfoldable pub closing-cost : Tariff → List ℕ → ℕ
-closing-cost t log = closing (state-after (opened t log) (seconds-of log) (servers-of log) (request-count log))
+closing-cost t log = closing (state-after (opened t log) (id-of log) (seconds-of log) (servers-of log) (request-count log))

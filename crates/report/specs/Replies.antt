@@ -1,4 +1,5 @@
 -- What the code takes from the answers of the calls that a sheet is made of. Assumes nothing.
+use mathlib.Core.List.{List}
 use Prim.Native.Nat.{ℕ}
 use Rattle.planner.specs.declared.Planned.{Planned}
 use Rattle.planner.specs.declared.Planned.the-variants as planned′
@@ -28,9 +29,9 @@ outcome-cost (scan′.Sent from cost) = cost
 outcome-cost (scan′.Refused r) = 0
 
 -- a scan, with the letter of its mark and the running cost
-unfoldable pub turn : Cache → ℕ → ℕ → Turn
-turn c second server =
-    let s = scanned c second server in
+unfoldable pub turn : Cache → List ℕ → ℕ → ℕ → Turn
+turn c id second server =
+    let s = scanned c id second server in
     record { cache = s .cache; mark = outcome-letter (s .outcome); cost = outcome-cost (s .outcome) }
 
 -- the closing cost that a close gives; a refused one gives none

@@ -14,7 +14,7 @@ use Rattle.base.specs.declared.Verdict.the-variants.{Passed, Refused}
 use Rattle.log.specs.Sizes.{most-requests}
 use Rattle.prices.specs.PriceLaws.{Priced}
 use Rattle.prices.specs.Tariff.{Tariff}
-use Rattle.log.specs.Fields.{request-count, server-count, seconds-of, servers-of}
+use Rattle.log.specs.Fields.{id-of, request-count, server-count, seconds-of, servers-of}
 use Rattle.log.specs.Conditions.{Accepted, log-conditions, verdict-of}
 use Rattle.log.specs.AcceptedLaws.{accepted-sound}
 use Rattle.online.specs.declared.Cache.{Cache}
@@ -80,40 +80,40 @@ module _ (t : Tariff) (priced : Priced t) (log : List ℕ) (a : Accepted t log) 
 
   -- the online cache goes through its requests, read from lists that hold them
   pub runs-read : (seconds servers : List ℕ) → Alike seconds (seconds-of log) → Alike servers (servers-of log)
-      → Runs (opened t log) seconds servers (request-count log)
+      → Runs (opened t log) (id-of log) seconds servers (request-count log)
   unfolding Runs
   runs-read seconds servers h k i l =
-      rw (state-alike (opened t log) seconds servers (seconds-of log) (servers-of log) h k i, h i, k i) (goes-on t priced log a i l)
+      rw (state-alike (opened t log) (id-of log) seconds servers (seconds-of log) (servers-of log) h k i, h i, k i) (goes-on t priced log a i l)
 
 -- lists that hold what the calls answer make the sheet
-pub sheet-made : (t : Tariff) (log : List ℕ) (n rows closing : ℕ) (cache : Cache) (seconds servers plan live least costs : List ℕ)
-    → n ≡ request-count log → rows ≡ length (planned-rows t log) → cache ≡ opened t log
+pub sheet-made : (t : Tariff) (log : List ℕ) (n rows closing : ℕ) (cache : Cache) (id seconds servers plan live least costs : List ℕ)
+    → n ≡ request-count log → rows ≡ length (planned-rows t log) → cache ≡ opened t log → id ≡ id-of log
     → Alike seconds (seconds-of log) → Alike servers (servers-of log) → Alike plan (marks-of t log) → Alike least (least-costs t log)
-    → Alike live (build n (live-mark cache seconds servers)) → Alike costs (build n (live-cost cache seconds servers))
+    → Alike live (build n (live-mark cache id seconds servers)) → Alike costs (build n (live-cost cache id seconds servers))
     → closing ≡ closing-cost t log
     → sheet-text (entry-of (columns seconds servers plan live least costs)) n rows closing ≡ sheet-of t log
 unfolding sheet-of columns-of live-marks running-costs
-sheet-made t log n rows closing cache seconds servers plan live least costs e f g h k l m p q z =
+sheet-made t log n rows closing cache id seconds servers plan live least costs e f g w h k l m p q z =
     rw (e, f, z)
     (sheet-alike (columns seconds servers plan live least costs) (columns-of t log) (request-count log) (length (planned-rows t log)) (closing-cost t log) h k l (λ i. rw (← marks) (p i)) m
     (λ i. rw (← amounts) (q i)))
   where
-    marks : build n (live-mark cache seconds servers) ≡ live-marks t log
+    marks : build n (live-mark cache id seconds servers) ≡ live-marks t log
     marks =
-        rw (e, g)
-        (build-same (request-count log) _ _ (λ j b. mark-alike (opened t log) seconds servers (seconds-of log) (servers-of log) h k j))
+        rw (e, g, w)
+        (build-same (request-count log) _ _ (λ j b. mark-alike (opened t log) (id-of log) seconds servers (seconds-of log) (servers-of log) h k j))
 
-    amounts : build n (live-cost cache seconds servers) ≡ running-costs t log
+    amounts : build n (live-cost cache id seconds servers) ≡ running-costs t log
     amounts =
-        rw (e, g)
-        (build-same (request-count log) _ _ (λ j b. cost-alike (opened t log) seconds servers (seconds-of log) (servers-of log) h k j))
+        rw (e, g, w)
+        (build-same (request-count log) _ _ (λ j b. cost-alike (opened t log) (id-of log) seconds servers (seconds-of log) (servers-of log) h k j))
 
 -- the close after a log's requests gives its closing cost
-pub closing-made : (t : Tariff) → Priced t → (log : List ℕ) (n : ℕ) (cache end : Cache) (seconds servers : List ℕ) → Accepted t log
-    → n ≡ request-count log → cache ≡ opened t log → Alike seconds (seconds-of log) → Alike servers (servers-of log)
-    → end ≡ state-after cache seconds servers n → close-cost (closed-answer end .outcome) ≡ closing-cost t log
+pub closing-made : (t : Tariff) → Priced t → (log : List ℕ) (n : ℕ) (cache end : Cache) (id seconds servers : List ℕ) → Accepted t log
+    → n ≡ request-count log → cache ≡ opened t log → id ≡ id-of log → Alike seconds (seconds-of log) → Alike servers (servers-of log)
+    → end ≡ state-after cache id seconds servers n → close-cost (closed-answer end .outcome) ≡ closing-cost t log
 unfolding closing-cost close-cost closed-answer closed-by
-closing-made t priced log n cache end seconds servers a e g h k s =
-    let state : end ≡ state-after (opened t log) (seconds-of log) (servers-of log) (request-count log) =
-    s ∙ rw (e, g) (state-alike (opened t log) seconds servers (seconds-of log) (servers-of log) h k (request-count log)) in
+closing-made t priced log n cache end id seconds servers a e g w h k s =
+    let state : end ≡ state-after (opened t log) (id-of log) (seconds-of log) (servers-of log) (request-count log) =
+    s ∙ rw (e, g, w) (state-alike (opened t log) (id-of log) seconds servers (seconds-of log) (servers-of log) h k (request-count log)) in
     rw (state, closes t priced log a)

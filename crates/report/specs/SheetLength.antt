@@ -6,7 +6,7 @@ use lib.ListN.{getD, length}
 use Rattle.base.specs.Lists.{build-at}
 use Rattle.prices.specs.PriceLaws.{Priced}
 use Rattle.prices.specs.Tariff.{Tariff}
-use Rattle.log.specs.Fields.{request-count, seconds-of, servers-of}
+use Rattle.log.specs.Fields.{id-of, request-count, seconds-of, servers-of}
 use Rattle.log.specs.Conditions.{Accepted}
 use Rattle.log.specs.AcceptedLaws.{accepted-sound}
 use Rattle.model.specs.LogRequests.{requests-in, prices-in}
@@ -38,7 +38,7 @@ module _ (t : Tariff) (priced : Priced t) (log : List ℕ) (a : Accepted t log) 
   unfolding running-costs live-cost
   running-small i h =
       let s = intact-after t priced log a (suc i) h in
-      rw (build-at (request-count log) (live-cost (opened t log) (seconds-of log) (servers-of log)) i 0 h)
+      rw (build-at (request-count log) (live-cost (opened t log) (id-of log) (seconds-of log) (servers-of log)) i 0 h)
       (running-fits _ (s .priced) (omega (arith, s .held-most)) (omega (arith, s .transfers-most, s .requests-most)))
 
   closing-small : closing-cost t log < 2 ^ 64

@@ -9,13 +9,11 @@ ghost use Rattle.base.specs.declared.Verdict.the-variants.{Passed};
 ghost use Rattle.prices.specs.Tariff.{price-file};
 ghost use Rattle.online.specs.Answers.{started-for-log, closed-answer};
 ghost use Rattle.report.specs.Live.{state-after, live-mark, live-cost};
-ghost use Rattle.log.specs.Contents.{setup-in};
 ghost use Rattle.report.specs.Replies.{outcome-letter, outcome-cost, turn, close-cost};
 ghost use Rattle.report.specs.LiveLaws.{Runs};
 use base::bytes::clear8;
 use base::bytes::clear64;
 use log::Header;
-use log::Setup;
 use online::Cache;
 use online::CloseOutcome;
 use online::ScanOutcome;
@@ -51,10 +49,10 @@ fn amount(outcome: ScanOutcome) -> u64
 }
 
 // One request scanned.
-fn step(cache: Cache, second: u32, server: u16) -> Turn
-    ensures { λ r. ⌜ r ≡ turn cache second server ⌝ }
+fn step(cache: Cache, id: [u8; 16], second: u32, server: u16) -> Turn
+    ensures { λ r. ⌜ r ≡ turn cache id second server ⌝ }
 {
-    let scanned = cache.scan(second, server);
+    let scanned = cache.scan(id, second, server);
     let outcome = scanned.outcome;
     let next = scanned.cache;
     Turn {
@@ -66,35 +64,31 @@ fn step(cache: Cache, second: u32, server: u16) -> Turn
 
 // The state of a log's start by a price file.
 pub fn open(prices: &[u8], header: Header) -> Cache
-    ensures { λ r. ⌜ r ≡ started-for-log (price-file (now (prices .entry))) (setup-in header) .cache ⌝ }
+    ensures { λ r. ⌜ r ≡ started-for-log (price-file (now (prices .entry))) header .cache ⌝ }
 {
-    let setup = Setup {
-        class: header.class,
-        server_count: header.server_count,
-        home: header.home,
-    };
-    let s = Cache::start_for_log(file_fault(prices), prices, setup);
+    let s = Cache::start_for_log(file_fault(prices), prices, header);
     s.cache
 }
 
-// The marks and running costs of n requests, into the fronts of two lists; and the state after them.
+// The marks and running costs of n requests of a file, into the fronts of two lists; and the state after them.
 fn replay(
     cache: Cache,
+    id: [u8; 16],
     seconds: &[u32],
     servers: &[u16],
     n: usize,
     marks: &mut [u8],
     costs: &mut [u64],
 ) -> Cache
-    requires { ⌜ Runs cache (now seconds) (now servers) n × (n ≤ length (now seconds)) × (n ≤ length (now servers)) × (n ≤ length (now marks)) × (n ≤ length (now costs)) ⌝ }
-    ensures { λ r. ⌜ r ≡ state-after cache (now (seconds .entry)) (now (servers .entry)) n ⌝ }
-    ensures { λ _. ⌜ now (marks .exit) ≡ build n (live-mark cache (now (seconds .entry)) (now (servers .entry))) ++ drop n (now (marks .entry)) ⌝ }
-    ensures { λ _. ⌜ now (costs .exit) ≡ build n (live-cost cache (now (seconds .entry)) (now (servers .entry))) ++ drop n (now (costs .entry)) ⌝ }
+    requires { ⌜ Runs cache id (now seconds) (now servers) n × (n ≤ length (now seconds)) × (n ≤ length (now servers)) × (n ≤ length (now marks)) × (n ≤ length (now costs)) ⌝ }
+    ensures { λ r. ⌜ r ≡ state-after cache id (now (seconds .entry)) (now (servers .entry)) n ⌝ }
+    ensures { λ _. ⌜ now (marks .exit) ≡ build n (live-mark cache id (now (seconds .entry)) (now (servers .entry))) ++ drop n (now (marks .entry)) ⌝ }
+    ensures { λ _. ⌜ now (costs .exit) ≡ build n (live-cost cache id (now (seconds .entry)) (now (servers .entry))) ++ drop n (now (costs .entry)) ⌝ }
 {
     let mut state = cache;
     let mut i: usize = 0;
     while i < n {
-        let t = step(state, seconds[i], servers[i]);
+        let t = step(state, id, seconds[i], servers[i]);
         marks[i] = t.mark;
         costs[i] = t.cost;
         state = t.cache;
@@ -106,18 +100,19 @@ fn replay(
 // The same, and zeros after them.
 pub(crate) fn give_live(
     cache: Cache,
+    id: [u8; 16],
     seconds: &[u32],
     servers: &[u16],
     n: usize,
     marks: &mut [u8],
     costs: &mut [u64],
 ) -> Cache
-    requires { ⌜ Runs cache (now seconds) (now servers) n × (n ≤ length (now seconds)) × (n ≤ length (now servers)) × (n ≤ length (now marks)) × (n ≤ length (now costs)) ⌝ }
-    ensures { λ r. ⌜ r ≡ state-after cache (now (seconds .entry)) (now (servers .entry)) n ⌝ }
-    ensures { λ _. ⌜ now (marks .exit) ≡ lent Passed (build n (live-mark cache (now (seconds .entry)) (now (servers .entry)))) (now (marks .entry)) ⌝ }
-    ensures { λ _. ⌜ now (costs .exit) ≡ lent Passed (build n (live-cost cache (now (seconds .entry)) (now (servers .entry)))) (now (costs .entry)) ⌝ }
+    requires { ⌜ Runs cache id (now seconds) (now servers) n × (n ≤ length (now seconds)) × (n ≤ length (now servers)) × (n ≤ length (now marks)) × (n ≤ length (now costs)) ⌝ }
+    ensures { λ r. ⌜ r ≡ state-after cache id (now (seconds .entry)) (now (servers .entry)) n ⌝ }
+    ensures { λ _. ⌜ now (marks .exit) ≡ lent Passed (build n (live-mark cache id (now (seconds .entry)) (now (servers .entry)))) (now (marks .entry)) ⌝ }
+    ensures { λ _. ⌜ now (costs .exit) ≡ lent Passed (build n (live-cost cache id (now (seconds .entry)) (now (servers .entry)))) (now (costs .entry)) ⌝ }
 {
-    let end = replay(cache, seconds, servers, n, marks, costs);
+    let end = replay(cache, id, seconds, servers, n, marks, costs);
     clear8(marks, n);
     clear64(costs, n);
     end

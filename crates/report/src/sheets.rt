@@ -105,7 +105,16 @@ fn put_sheet(
     let rows = plan_marks(prices, log, &mut marks);
     find_least(prices, log, &mut costs);
     let cache = open(prices, header);
-    let end = give_live(cache, seconds, servers, n, &mut live_marks, &mut live_costs);
+    let id = header.id;
+    let end = give_live(
+        cache,
+        id,
+        seconds,
+        servers,
+        n,
+        &mut live_marks,
+        &mut live_costs,
+    );
     let close = closing(end);
     put_lines(
         text,

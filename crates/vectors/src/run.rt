@@ -3,7 +3,6 @@ use base::Verdict;
 use checker::Checked;
 use checker::check;
 use log::Header;
-use log::Setup;
 use log::Written;
 use log::write_with;
 use online::Cache;
@@ -24,6 +23,16 @@ pub(crate) fn class_prices(class: u8) -> Prices {
     of_class(&table, class)
 }
 
+// What a log and a cache of these are given.
+fn header_of(class: u8, server_count: u8, home: u8) -> Header {
+    Header {
+        class,
+        server_count,
+        home,
+        id: *b"felzoumig vector",
+    }
+}
+
 // The length of the log that is written.
 pub(crate) fn written(
     class: u8,
@@ -33,12 +42,7 @@ pub(crate) fn written(
     servers: &[u16],
     log: &mut [u8],
 ) -> u64 {
-    let header = Header {
-        class,
-        server_count,
-        home,
-        id: *b"felzoumig vector",
-    };
+    let header = header_of(class, server_count, home);
     let prices = built_in();
     let w = write_with(&prices, header, seconds, servers, log);
     match w {
@@ -91,19 +95,14 @@ pub(crate) fn checked_rows(log: &[u8], rows: &[u32], n: u32) -> u64 {
     checked(log, &rows[..end])
 }
 
-fn open(class: u8, server_count: u8, home: u8) -> Cache {
-    let setup = Setup {
-        class,
-        server_count,
-        home,
-    };
+fn open(header: Header) -> Cache {
     let prices = built_in();
-    let s = Cache::start_for_log(Verdict::Passed, &prices, setup);
+    let s = Cache::start_for_log(Verdict::Passed, &prices, header);
     s.cache
 }
 
-fn next(cache: Cache, second: u32, server: u16) -> Cache {
-    let s = cache.scan(second, server);
+fn next(cache: Cache, id: [u8; 16], second: u32, server: u16) -> Cache {
+    let s = cache.scan(id, second, server);
     s.cache
 }
 
@@ -117,13 +116,15 @@ fn amount(cache: Cache) -> u64 {
 
 // The running cost after all requests.
 pub(crate) fn live(class: u8, server_count: u8, home: u8, seconds: &[u32], servers: &[u16]) -> u64 {
-    let mut cache = open(class, server_count, home);
+    let header = header_of(class, server_count, home);
+    let id = header.id;
+    let mut cache = open(header);
     let mut i: usize = 0;
     while i < seconds.len() {
         if servers.len() <= i {
             return ABSENT;
         }
-        cache = next(cache, seconds[i], servers[i]);
+        cache = next(cache, id, seconds[i], servers[i]);
         i += 1;
     }
     amount(cache)

@@ -49,9 +49,9 @@ pub fn order<C: Calls>() {
     for (prices, class, of_class) in without.into_iter().chain(with) {
         for (server_count, home, of_setup) in setups {
             let fault = of_class.or(of_setup);
-            let cache = unless(fault, || Cache::fresh(Prices::of(class), server_count, home));
-            assert_eq!(C::start(prices, class, server_count, home), or_zeros(cache), "{prices:?} {class} {server_count} {home}");
             let header = Header { class, server_count, home, id: [5; 16] };
+            let cache = unless(fault, || Cache::fresh(Prices::of(class), &header));
+            assert_eq!(C::start(prices, &header), or_zeros(cache), "{prices:?} {header:?}");
             for (seconds, servers, of_lists) in &lists {
                 let needed = 40 + 6 * seconds.len();
                 for length in [0, needed - 1, needed, needed + 3] {

@@ -4,6 +4,7 @@
 //! compared whole after it, so that zeros beyond an answer and outputs left as they were are seen.
 
 pub mod checker;
+pub mod ids;
 pub mod lifetime;
 pub mod log;
 pub mod online;
@@ -124,6 +125,13 @@ mod tests {
         online::dearest::<Fast>();
         online::each_age::<Fast>();
         online::price_bounds::<Fast>();
+    }
+
+    #[test]
+    fn fast_ids() {
+        ids::every_bit::<Fast>(30);
+        ids::every_two::<Fast>(31);
+        ids::order::<Fast>(32);
     }
 
     #[test]

@@ -7,49 +7,64 @@ use crate::log::{Header, Log, Request, LAST_SECOND, MOST_REQUESTS};
 use crate::online::{history, Cache, Served, MOST_HELD, ZEROS};
 use crate::planner::Mark;
 use crate::prices::{each_class, encode, PriceFile, Prices, Table, BUILT_IN, EDGES, HIGHEST};
-use crate::random::{random_gap, random_header, random_pair, random_table, Random};
+use crate::random::{another_id, random_gap, random_header, random_id, random_pair, random_table, Random};
 use crate::{refuse, Refusal};
 
 #[derive(Clone, Copy, Debug)]
-enum Call {
-    Scan(u32, u16),
+pub(super) enum Call {
+    /// of an id, at a second and a server
+    Scan([u8; 16], u32, u16),
     Close,
 }
 
+impl Call {
+    /// Whether it is of a file: a close is of any.
+    fn is_of(self, file: [u8; 16]) -> bool {
+        match self {
+            Call::Scan(id, ..) => id == file,
+            Call::Close => true,
+        }
+    }
+}
+
 /// What a call gave that was not refused.
-enum Given {
+#[derive(Debug, PartialEq, Eq)]
+pub(super) enum Given {
     Scanned(Served),
     Closed(u64),
 }
 
-/// One call on a state, and its running cost, by both; what the call gave, and the state given back.
-fn call<C: Calls>(cache: &Cache, call: Call, met: &mut Met) -> (Cache, Result<Given, Refusal>) {
+/// One call on a state, and its running cost, by both; what the call gave, and the state given back, whose id is the same.
+pub(super) fn call<C: Calls>(cache: &Cache, call: Call, met: &mut Met) -> (Cache, Result<Given, Refusal>) {
     assert_eq!(C::running(cache), Simple::running(cache), "{cache:?}");
-    match call {
-        Call::Scan(second, server) => {
-            let a = Simple::scan(cache, second, server);
-            assert_eq!(C::scan(cache, second, server), a, "{cache:?} {call:?}");
-            met.count(&a.1);
+    let (next, given) = match call {
+        Call::Scan(id, second, server) => {
+            let a = Simple::scan(cache, id, second, server);
+            assert_eq!(C::scan(cache, id, second, server), a, "{cache:?} {call:?}");
             (a.0, a.1.map(Given::Scanned))
         }
         Call::Close => {
             let a = Simple::close(cache);
             assert_eq!(C::close(cache), a, "{cache:?} {call:?}");
-            met.count(&a.1);
             (a.0, a.1.map(Given::Closed))
         }
-    }
+    };
+    assert_eq!(next.id, cache.id, "{cache:?} {call:?}");
+    met.count(&given);
+    (next, given)
 }
 
-/// A start by both.
-pub(super) fn start<C: Calls>(prices: PriceFile, class: u8, server_count: u8, home: u8) -> Result<(), Refusal> {
-    let a = Simple::start(prices, class, server_count, home);
-    assert_eq!(C::start(prices, class, server_count, home), a, "{prices:?} {class} {server_count} {home}");
-    a.1
+/// A start by both. The state's id is the header's, or zeros if refused.
+pub(super) fn start<C: Calls>(prices: PriceFile, header: &Header) -> Result<(), Refusal> {
+    let (cache, outcome) = C::start(prices, header);
+    assert_eq!((cache, outcome), Simple::start(prices, header), "{prices:?} {header:?}");
+    assert_eq!(cache.id, if outcome.is_ok() { header.id } else { [0; 16] }, "{prices:?} {header:?}");
+    outcome
 }
 
-/// Starts of every class, count and home about their bounds, with tables of several lengths.
+/// Starts of every class, count and home about their bounds, with tables of several lengths, each with an id of its own.
 pub fn starts<C: Calls>() {
+    let mut random = Random::new(302);
     let of_length = |classes| Table::of_pairs(&vec![(3, 70); classes]);
     let of_eight = [Table::built_in(), Table::of_pairs(&BUILT_IN), Table::of_pairs(&EDGES)];
     for table in of_eight.into_iter().chain([1, 255, 256].map(of_length)) {
@@ -57,7 +72,8 @@ pub fn starts<C: Calls>() {
         for class in (0..12).chain([128, 254, 255]) {
             for server_count in 0..=255u8 {
                 for home in (0..4).chain([62, 63, 64, 65, 254, 255]).chain([server_count.saturating_sub(1), server_count]) {
-                    met.count(&start::<C>(table.file(), class, server_count, home));
+                    let header = Header { class, server_count, home, id: random_id(&mut random) };
+                    met.count(&start::<C>(table.file(), &header));
                 }
             }
         }
@@ -72,19 +88,19 @@ pub fn starts<C: Calls>() {
 }
 
 /// A cache as a start gives it. The class that is no longer sold is refused, and started with its table as a price file.
-fn started<C: Calls>(table: &Table, class: u8, server_count: u8, home: u8) -> Cache {
-    let mut answer = C::start(table.file(), class, server_count, home);
-    if table.unsold() == Some(class) {
+pub(super) fn started<C: Calls>(table: &Table, header: &Header) -> Cache {
+    let mut answer = C::start(table.file(), header);
+    if table.unsold() == Some(header.class) {
         assert_eq!(answer, (ZEROS, refuse(43, 0)));
-        answer = C::start(Some(&encode(&BUILT_IN)), class, server_count, home);
+        answer = C::start(Some(&encode(&BUILT_IN)), header);
     }
-    assert_eq!(answer, (Cache::fresh(table.of(class), server_count, home), Ok(())));
+    assert_eq!(answer, (Cache::fresh(table.of(header.class), header), Ok(())));
     answer.0
 }
 
-/// What 01 says of a call in a list from the start and the calls before it alone: its refusal, if any.
+/// What 01 and 02 say of a call in a list from the start and the calls before it alone: its refusal, if any.
 fn expected(header: &Header, taken: &[Request], closed: bool, call: Call) -> Option<u8> {
-    if let Call::Scan(second, server) = call {
+    if let Call::Scan(_, second, server) = call {
         if server >= header.server_count as u16 {
             return Some(11);
         }
@@ -96,8 +112,9 @@ fn expected(header: &Header, taken: &[Request], closed: bool, call: Call) -> Opt
         return Some(33);
     }
     match call {
+        Call::Scan(id, ..) if id != header.id => Some(39),
         Call::Scan(..) if taken.len() == MOST_REQUESTS => Some(34),
-        Call::Scan(second, _) if taken.last().map_or(false, |request| second <= request.second) => Some(35),
+        Call::Scan(_, second, _) if taken.last().map_or(false, |request| second <= request.second) => Some(35),
         _ => None,
     }
 }
@@ -107,6 +124,7 @@ struct Run<'a> {
     table: &'a Table,
     header: Header,
     cache: Cache,
+    calls: Vec<Call>,
     taken: Vec<Request>,
     marks: Vec<Mark>,
     /// the closing cost that a close gave
@@ -115,8 +133,8 @@ struct Run<'a> {
 
 impl Run<'_> {
     fn start<C: Calls>(table: &Table, header: Header) -> Run<'_> {
-        let cache = started::<C>(table, header.class, header.server_count, header.home);
-        Run { table, header, cache, taken: vec![], marks: vec![], closing: None }
+        let cache = started::<C>(table, &header);
+        Run { table, header, cache, calls: vec![], taken: vec![], marks: vec![], closing: None }
     }
 
     fn step<C: Calls>(&mut self, next: Call, met: &mut Met) {
@@ -125,19 +143,40 @@ impl Run<'_> {
         let refused = outcome.as_ref().err();
         assert_eq!(refused.map(|refusal| (refusal.number, refusal.place)), refusal.map(|number| (number, 0)), "{next:?}");
         match (next, outcome) {
-            (Call::Scan(second, server), Ok(Given::Scanned(served))) => {
+            (Call::Scan(id, second, server), Ok(Given::Scanned(served))) => {
+                assert_eq!(id, self.header.id, "{next:?}");
                 self.taken.push(Request { second, server });
                 self.marks.push(served.mark());
             }
             (Call::Close, Ok(Given::Closed(cost))) => self.closing = Some(cost),
             _ => assert_eq!(cache, self.cache),
         }
+        assert_eq!(cache.id, self.header.id, "{next:?}");
+        self.calls.push(next);
         self.cache = cache;
+    }
+
+    /// Whether a scan of another file is in the list.
+    fn is_mixed(&self) -> bool {
+        self.calls.iter().any(|call| !call.is_of(self.header.id))
+    }
+
+    /// The list without the scans of other files: it takes the same requests in the same way and leads to the same state.
+    fn without_others<C: Calls>(&self) {
+        let mut own = Run::start::<C>(self.table, self.header);
+        for &next in self.calls.iter().filter(|call| call.is_of(self.header.id)) {
+            own.step::<C>(next, &mut Met::default());
+        }
+        let Run { cache, taken, marks, closing, .. } = own;
+        assert_eq!((cache, &taken, &marks, closing), (self.cache, &self.taken, &self.marks, self.closing), "{:?}", self.calls);
     }
 
     /// Demand 3 at the end of a list: counts as the rules give them, and the running cost between least and three times it. The closing
     /// cost, of the close in the list or of one after it, is between the running cost and three times the least and one transfer.
     fn end<C: Calls>(&self) {
+        if self.is_mixed() {
+            self.without_others::<C>();
+        }
         let prices = self.table.of(self.header.class);
         assert_eq!(self.cache.prices, prices);
         let closing = self.closing.unwrap_or_else(|| C::close(&self.cache).1.unwrap());
@@ -163,7 +202,7 @@ impl Run<'_> {
 pub(super) fn served<C: Calls>(table: &Table, log: &Log, met: &mut Met) -> Vec<Mark> {
     let mut run = Run::start::<C>(table, log.header);
     for request in &log.requests {
-        run.step::<C>(Call::Scan(request.second, request.server), met);
+        run.step::<C>(Call::Scan(log.header.id, request.second, request.server), met);
     }
     run.step::<C>(Call::Close, met);
     run.end::<C>();
@@ -171,32 +210,46 @@ pub(super) fn served<C: Calls>(table: &Table, log: &Log, met: &mut Met) -> Vec<M
 }
 
 /// All lists of a few calls, taken and refused: scans at up to three servers and one past them, after a gap of 0, 1, the window and
-/// one more, and closes.
+/// one more, of the start's id and of another, and closes.
 pub fn every_small_list<C: Calls>(most: usize) {
+    let mut random = Random::new(303);
     let mut met = Met::default();
     for (table, class) in each_class() {
         let window = table.of(class).window() as u32;
         let mut gaps = vec![0, 1, window.max(1), window + 1];
         gaps.dedup();
         for server_count in 1..=3 {
-            let cache = started::<C>(&table, class, server_count, server_count / 2);
-            every_list::<C>(&cache, &gaps, most, &mut met);
+            let header = Header { class, server_count, home: server_count / 2, id: random_id(&mut random) };
+            let other = another_id(&mut random, header.id);
+            every_list::<C>(&started::<C>(&table, &header), other, &gaps, most, &mut met);
         }
     }
-    met.exactly(&[0, 11, 12, 33, 35], 10);
+    met.exactly(&[0, 11, 12, 33, 35, 39], 10);
 }
 
-fn every_list<C: Calls>(cache: &Cache, gaps: &[u32], left: usize, met: &mut Met) {
+fn every_list<C: Calls>(cache: &Cache, other: [u8; 16], gaps: &[u32], left: usize, met: &mut Met) {
     if left == 0 {
         return;
     }
     let (next, _) = call::<C>(cache, Call::Close, met);
-    every_list::<C>(&next, gaps, left - 1, met);
-    for gap in gaps {
-        for server in 0..=cache.server_count as u16 {
-            let (next, _) = call::<C>(cache, Call::Scan(cache.second + gap, server), met);
-            every_list::<C>(&next, gaps, left - 1, met);
+    every_list::<C>(&next, other, gaps, left - 1, met);
+    for id in [cache.id, other] {
+        for gap in gaps {
+            for server in 0..=cache.server_count as u16 {
+                let (next, _) = call::<C>(cache, Call::Scan(id, cache.second + gap, server), met);
+                assert!(id == cache.id || next == *cache, "{cache:?} {next:?}");
+                every_list::<C>(&next, other, gaps, left - 1, met);
+            }
         }
+    }
+}
+
+/// An id, or once in so many times another.
+fn own_or_another(random: &mut Random, id: [u8; 16], times: u64) -> [u8; 16] {
+    if random.once_in(times) {
+        another_id(random, id)
+    } else {
+        id
     }
 }
 
@@ -204,20 +257,21 @@ fn random_call(random: &mut Random, run: &Run, ends: u64) -> Call {
     let count = run.header.server_count as u64;
     let server = if random.once_in(4) { run.cache.last } else { random.below(count) as u16 };
     let later = run.cache.second + random_gap(random, run.cache.prices, LAST_SECOND);
+    let id = own_or_another(random, run.header.id, 10);
     match random.below(30) {
-        0 => Call::Scan(later, random.one_of(&[count as u16, count as u16 + 1, 64, 256, 0xffff])),
-        1 => Call::Scan(random.one_of(&[0, LAST_SECOND + 1, u32::MAX]), server),
-        2 => Call::Scan(run.cache.second - random.below(run.cache.second as u64 + 1) as u32, server),
-        3 => Call::Scan(random.number(), random.word() as u16),
+        0 => Call::Scan(id, later, random.one_of(&[count as u16, count as u16 + 1, 64, 256, 0xffff])),
+        1 => Call::Scan(id, random.one_of(&[0, LAST_SECOND + 1, u32::MAX]), server),
+        2 => Call::Scan(id, run.cache.second - random.below(run.cache.second as u64 + 1) as u32, server),
+        3 => Call::Scan(id, random.number(), random.word() as u16),
         4 if random.once_in(ends) => Call::Close,
-        _ => Call::Scan(later, server),
+        _ => Call::Scan(id, later, server),
     }
 }
 
 pub fn random_lists<C: Calls>(seed: u64, times: usize) {
     let mut random = Random::new(seed);
     let mut met = Met::default();
-    let (mut without_window, mut at_bounds, mut unsold) = (0, 0, 0);
+    let (mut without_window, mut at_bounds, mut unsold, mut mixed) = (0, 0, 0, 0);
     for _ in 0..times {
         let table = random_table(&mut random);
         let mut run = Run::start::<C>(&table, random_header(&mut random, &table));
@@ -231,11 +285,12 @@ pub fn random_lists<C: Calls>(seed: u64, times: usize) {
             let next = random_call(&mut random, &run, ends);
             run.step::<C>(next, &mut met);
         }
+        mixed += usize::from(run.is_mixed());
         run.end::<C>();
     }
-    met.exactly(&[0, 11, 12, 33, 35], times as u64 / 10);
-    let often = without_window > times / 10 && at_bounds > times / 100 && unsold > times / 30;
-    assert!(often, "{without_window} {at_bounds} {unsold}");
+    met.exactly(&[0, 11, 12, 33, 35, 39], times as u64 / 10);
+    let often = without_window > times / 10 && at_bounds > times / 100 && unsold > times / 30 && mixed > times / 3;
+    assert!(often, "{without_window} {at_bounds} {unsold} {mixed}");
 }
 
 /// A state that passes 32, whether or not calls lead to it.
@@ -261,6 +316,7 @@ fn sound(random: &mut Random) -> Cache {
     let requests = random.one_of(&[0, 1, 2, 100, 2_047, 2_048]);
     Cache {
         prices,
+        id: header.id,
         server_count: header.server_count,
         last,
         second,
@@ -309,7 +365,7 @@ fn spoil(random: &mut Random, cache: &mut Cache) {
     }
 }
 
-/// Calls on states that nobody gave back, most of them with one field wrong.
+/// Calls on states that nobody gave back, most of them with one field wrong; scans of the state's id, and of others.
 pub fn made_up_states<C: Calls>(seed: u64, times: usize) {
     let mut random = Random::new(seed);
     let mut met = Met::default();
@@ -325,10 +381,11 @@ pub fn made_up_states<C: Calls>(seed: u64, times: usize) {
         };
         let any = random.below(66) as u16;
         let server = random.one_of(&[cache.last, 0, 1, 63, any]);
-        let _ = call::<C>(&cache, Call::Scan(second, server), &mut met);
+        let id = own_or_another(&mut random, cache.id, 5);
+        let _ = call::<C>(&cache, Call::Scan(id, second, server), &mut met);
         let _ = call::<C>(&cache, Call::Close, &mut met);
     }
-    met.exactly(&[0, 11, 12, 32, 33, 34, 35], times as u64 / 100);
+    met.exactly(&[0, 11, 12, 32, 33, 34, 35, 39], times as u64 / 100);
 }
 
 /// 32 for each pair of prices about the bounds, of a state whose copies were all used in its last second, so that no window matters.
@@ -336,12 +393,12 @@ pub fn price_bounds<C: Calls>() {
     let mut met = Met::default();
     let prices = [0, 1, 2, HIGHEST - 1, HIGHEST, HIGHEST + 1, 1 << 31, u32::MAX];
     for (hold, transfer) in prices.into_iter().flat_map(|hold| prices.map(|transfer| (hold, transfer))) {
-        let fresh = Cache::fresh(Prices { hold, transfer }, 3, 2);
+        let fresh = Cache::fresh(Prices { hold, transfer }, &Header { class: 0, server_count: 3, home: 2, id: [5; 16] });
         let mut later = Cache { second: 50, holders: 5, requests: 9, transfers: 4, held: 70, ..fresh };
         (later.last_use[0], later.last_use[2]) = (50, 50);
         for cache in [fresh, later] {
             let sound = (1..=HIGHEST).contains(&hold) && (1..=HIGHEST).contains(&transfer);
-            for next in [Call::Scan(51, 0), Call::Scan(51, 1), Call::Close] {
+            for next in [Call::Scan(cache.id, 51, 0), Call::Scan(cache.id, 51, 1), Call::Close] {
                 let (_, outcome) = call::<C>(&cache, next, &mut met);
                 assert_eq!(outcome.err(), refuse::<()>(32, 0).err().filter(|_| !sound), "{cache:?}");
             }
@@ -351,7 +408,7 @@ pub fn price_bounds<C: Calls>() {
     met.exactly(&[0, 32], 90);
 }
 
-/// Lists of 2,048 requests taken and more calls after them; two with as many held seconds as can be.
+/// Lists of 2,048 requests taken, with scans of other files among them and more calls after them; two with as many held seconds as can be.
 pub fn full<C: Calls>(seed: u64) {
     let mut random = Random::new(seed);
     let mut met = Met::default();
@@ -359,32 +416,38 @@ pub fn full<C: Calls>(seed: u64) {
     let ordinary = [(0, 64), (7, 64), (6, 3), (4, 8), (5, 1)].map(|(class, server_count)| (&built_in, class, server_count));
     let dear = [(0, 64), (1, 64), (2, 64)].map(|(class, server_count)| (&own, class, server_count));
     for (table, class, server_count) in ordinary.into_iter().chain(dear) {
-        let mut run = Run::start::<C>(table, Header { class, server_count, home: 0, id: [0; 16] });
+        let id = random_id(&mut random);
+        let mut run = Run::start::<C>(table, Header { class, server_count, home: 0, id });
         while run.taken.len() < MOST_REQUESTS {
             let gap = random_gap(&mut random, run.cache.prices, 1_900);
             let server = random.below(server_count as u64) as u16;
-            run.step::<C>(Call::Scan(run.cache.second + gap, server), &mut met);
+            let scanned = own_or_another(&mut random, id, 30);
+            run.step::<C>(Call::Scan(scanned, run.cache.second + gap, server), &mut met);
         }
-        for next in [Call::Scan(run.cache.second + 1, 0), Call::Scan(1, 0), Call::Scan(1, 64), Call::Scan(0, 0), Call::Close, Call::Close] {
+        let last = run.cache.second;
+        let scans = |id| [(last + 1, 0), (last, 0), (1, 0), (1, 64), (0, 0)].map(|(second, server)| Call::Scan(id, second, server));
+        let more = [scans(id), scans(another_id(&mut random, id))].concat();
+        for next in [&more[..], &[Call::Close, Call::Close], &more[..]].concat() {
             run.step::<C>(next, &mut met);
         }
         run.end::<C>();
     }
     for (table, class) in [(&built_in, 7), (&own, 2)] {
-        let mut run = Run::start::<C>(table, Header { class, server_count: 64, home: 0, id: [0; 16] });
+        let id = random_id(&mut random);
+        let mut run = Run::start::<C>(table, Header { class, server_count: 64, home: 0, id });
         for server in 1..64 {
-            run.step::<C>(Call::Scan(server as u32, server), &mut met);
+            run.step::<C>(Call::Scan(id, server as u32, server), &mut met);
         }
         while run.taken.len() < MOST_REQUESTS - 1 {
             let next = run.cache.second + 2_000;
             let oldest = (0..64).min_by_key(|&server| run.cache.last_use[server]).unwrap() as u16;
-            run.step::<C>(Call::Scan(next, oldest), &mut met);
+            run.step::<C>(Call::Scan(id, next, oldest), &mut met);
         }
-        run.step::<C>(Call::Scan(LAST_SECOND, 0), &mut met);
+        run.step::<C>(Call::Scan(id, LAST_SECOND, 0), &mut met);
         assert!(run.cache.held > 200_000_000);
         run.end::<C>();
     }
-    met.exactly(&[0, 11, 12, 33, 34], 1);
+    met.exactly(&[0, 11, 12, 33, 34, 39], 24);
 }
 
 /// Closes of the states with the largest closing costs: 64 copies with a whole window left, all seconds held and transfers that 32 lets pass. No
@@ -397,6 +460,7 @@ pub fn dearest<C: Calls>() {
         let second = LAST_SECOND;
         let most = Cache {
             prices,
+            id: [0xff; 16],
             server_count: 64,
             last: 63,
             second,
@@ -430,7 +494,8 @@ pub fn each_age<C: Calls>() {
         let window = prices.window();
         let ages: Vec<u64> = if window > 1_000 { vec![0, 1, window - 1, window] } else { (0..=window).collect() };
         for age in ages {
-            let mut cache = Cache { last: 1, second: LAST_SECOND, holders: 3, ..started::<C>(&table, class, 2, 0) };
+            let header = Header { class, server_count: 2, home: 0, id: [5; 16] };
+            let mut cache = Cache { last: 1, second: LAST_SECOND, holders: 3, ..started::<C>(&table, &header) };
             cache.last_use[0] = LAST_SECOND - age as u32;
             cache.last_use[1] = LAST_SECOND;
             assert_eq!(C::close(&cache).1, Ok(prices.cost(window - age + window, 0)), "{prices:?} {age}");

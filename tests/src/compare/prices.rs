@@ -45,7 +45,6 @@ fn planned(prices: PriceFile, file: &[u8]) -> Vec<u32> {
 /// Every call on one input, its outputs of any length.
 fn every_call<C: Calls>(random: &mut Random, prices: PriceFile, input: &Input) -> Outcomes {
     let Input { log, file } = input;
-    let Header { class, server_count, home, .. } = log.header;
     let count = log.requests.len();
     let mut rows = planned(prices, file);
     let (out, marks, numbers, costs) = (room(random, 40 + 6 * count), room(random, count), room(random, rows.len()), room(random, count + 1));
@@ -58,7 +57,7 @@ fn every_call<C: Calls>(random: &mut Random, prices: PriceFile, input: &Input) -
     outcomes[CHECK] = checker::check::<C>(prices, file, &rows).map(drop);
     outcomes[PLAN] = planner::plan::<C>(random, prices, file, marks, numbers).map(drop);
     outcomes[LEAST] = planner::least::<C>(random, prices, file, costs).map(drop);
-    outcomes[START] = online::start::<C>(prices, class, server_count, home);
+    outcomes[START] = online::start::<C>(prices, &log.header);
     outcomes
 }
 
@@ -153,11 +152,12 @@ pub fn every_byte<C: Calls>() {
     let mut met = Met::default();
     let good = encode(&[(3, 70), (999_999, 65_535)]);
     let input = &inputs(2)[1];
+    let header = Header { home: 0, ..input.log.header };
     for at in 0..good.len() {
         for byte in 0..=255 {
             let mut file = good.clone();
             file[at] = byte;
-            met.count(&online::start::<C>(Some(&file), 1, 2, 0));
+            met.count(&online::start::<C>(Some(&file), &header));
             met.count(&planner::least::<C>(&mut random, Some(&file), &input.file, 4));
         }
     }
@@ -208,8 +208,9 @@ pub fn every_class<C: Calls>(seed: u64) {
     let table = Table::of_pairs(&pairs);
     let mut mets: [Met; 6] = Default::default();
     for class in 0..=255 {
-        let (cache, _) = C::start(table.file(), class, 2, 0);
-        assert_eq!(cache, Cache::fresh(table.of(class), 2, 0));
+        let header = Header { class, server_count: 2, home: 0, id: [class; 16] };
+        let (cache, _) = C::start(table.file(), &header);
+        assert_eq!(cache, Cache::fresh(table.of(class), &header));
         for _ in 0..4 {
             let mut log = random_log(&mut random, &table, 20);
             log.header.class = class;
@@ -239,7 +240,7 @@ type Made = ((Result<u64, Refusal>, Vec<u8>), (Cache, Result<(), Refusal>));
 fn made<C: Calls>(prices: PriceFile, log: &Log, noise: &[u8]) -> Made {
     let mut out = noise.to_vec();
     let written = C::write(prices, &log.header, &log.seconds(), &log.servers(), &mut out);
-    let started = C::start(prices, log.header.class, log.header.server_count, log.header.home);
+    let started = C::start(prices, &log.header);
     ((written, out), started)
 }
 

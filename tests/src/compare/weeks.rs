@@ -121,10 +121,11 @@ impl Week {
     }
 
     fn online<C: Calls>(&self) {
-        let (mut cache, _) = C::start(None, self.class, self.server_count, 0);
+        let header = self.log().header;
+        let (mut cache, _) = C::start(None, &header);
         let (mut running, mut marks) = (vec![0], String::new());
         for &(second, server) in self.requests {
-            let (next, served) = C::scan(&cache, second, server);
+            let (next, served) = C::scan(&cache, header.id, second, server);
             let served = served.unwrap();
             marks.push(letter(served.mark()) as char);
             running.push(served.running);
@@ -163,9 +164,10 @@ fn read<C: Calls>(requests: &[(u32, u16)]) -> Result<u16, Refusal> {
 pub fn h_and_i<C: Calls>() {
     assert_eq!(read::<C>(&[(4_000_000, 1)]), Ok(1));
     assert_eq!(read::<C>(&[(4_000_001, 1)]), refuse(12, 1));
-    let (cache, _) = C::start(None, 0, 2, 0);
-    assert!(C::scan(&cache, 4_000_000, 1).1.is_ok());
-    assert_eq!(C::scan(&cache, 4_000_001, 1), (cache, refuse(12, 0)));
+    let header = log_of(0, 2, &[]).header;
+    let (cache, _) = C::start(None, &header);
+    assert!(C::scan(&cache, header.id, 4_000_000, 1).1.is_ok());
+    assert_eq!(C::scan(&cache, header.id, 4_000_001, 1), (cache, refuse(12, 0)));
     assert_eq!(read::<C>(&[(7, 1), (7, 0)]), refuse(13, 2));
 }
 

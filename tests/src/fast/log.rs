@@ -74,7 +74,7 @@ pub fn read(prices: PriceFile, file: &[u8], seconds: &mut [u32], servers: &mut [
 
 pub fn write(prices: PriceFile, header: &Header, seconds: &[u32], servers: &[u16], out: &mut [u8]) -> Result<u64, Refusal> {
     let table = table(prices)?;
-    check_setup(table.classes(), table.unsold(), header.class, header.server_count, header.home)?;
+    check_setup(table.classes(), table.unsold(), header)?;
     if seconds.len() != servers.len() || seconds.len() > MOST_REQUESTS {
         return refuse(7, 0);
     }

@@ -41,13 +41,13 @@ impl Calls for Fast {
         planner::least(prices, file, costs)
     }
 
-    fn start(prices: PriceFile, class: u8, server_count: u8, home: u8) -> (Cache, Result<(), Refusal>) {
-        or_zeros(online::start(prices, class, server_count, home))
+    fn start(prices: PriceFile, header: &Header) -> (Cache, Result<(), Refusal>) {
+        or_zeros(online::start(prices, header))
     }
 
-    fn scan(cache: &Cache, second: u32, server: u16) -> (Cache, Result<Served, Refusal>) {
+    fn scan(cache: &Cache, id: [u8; 16], second: u32, server: u16) -> (Cache, Result<Served, Refusal>) {
         let mut next = *cache;
-        let served = online::scan(&mut next, second, server);
+        let served = online::scan(&mut next, id, second, server);
         (next, served)
     }
 

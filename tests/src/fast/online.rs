@@ -1,15 +1,15 @@
 //! Start; scan, running cost and close on a state in place, going through the copies that stand.
 
 use super::prices::table;
-use crate::log::{check_setup, LAST_SECOND, MOST_REQUESTS};
+use crate::log::{check_setup, Header, LAST_SECOND, MOST_REQUESTS};
 use crate::online::{Cache, Served, MOST_HELD};
 use crate::prices::PriceFile;
 use crate::{refuse, Refusal};
 
-pub fn start(prices: PriceFile, class: u8, server_count: u8, home: u8) -> Result<Cache, Refusal> {
+pub fn start(prices: PriceFile, header: &Header) -> Result<Cache, Refusal> {
     let table = table(prices)?;
-    check_setup(table.classes(), table.unsold(), class, server_count, home)?;
-    Ok(Cache::fresh(table.of(class), server_count, home))
+    check_setup(table.classes(), table.unsold(), header)?;
+    Ok(Cache::fresh(table.of(header.class), header))
 }
 
 fn unsound(cache: &Cache) -> bool {
@@ -35,8 +35,8 @@ fn unsound(cache: &Cache) -> bool {
     wrong
 }
 
-pub fn scan(cache: &mut Cache, second: u32, server: u16) -> Result<Served, Refusal> {
-    cache.scan_fault(second, server, unsound)?;
+pub fn scan(cache: &mut Cache, id: [u8; 16], second: u32, server: u16) -> Result<Served, Refusal> {
+    cache.scan_fault(id, second, server, unsound)?;
     let window = cache.prices.window() as u32;
     let (at, last) = (server as usize, cache.last as usize);
     let mut held = second - cache.second;

@@ -21,12 +21,25 @@ struct Answer {
     more: u64,
 }
 
+/// A file's id.
+#[repr(C)]
+struct Id {
+    bytes: [u8; 16],
+}
+
 #[repr(C)]
 struct FileHeader {
     class: u8,
     server_count: u8,
     home: u8,
-    id: [u8; 16],
+    id: Id,
+}
+
+impl FileHeader {
+    fn of(header: &Header) -> FileHeader {
+        let Header { class, server_count, home, id } = *header;
+        FileHeader { class, server_count, home, id: Id { bytes: id } }
+    }
 }
 
 #[repr(C)]
@@ -125,9 +138,9 @@ extern "C" {
         costs: *mut u64,
         costs_length: usize,
     ) -> Answer;
-    fn caching_start(class: u8, server_count: u8, home: u8) -> CacheAnswer;
-    fn caching_start_with(prices: *const u8, prices_length: usize, class: u8, server_count: u8, home: u8) -> CacheAnswer;
-    fn caching_scan(cache: Cache, second: u32, server: u16) -> ScanAnswer;
+    fn caching_start(header: FileHeader) -> CacheAnswer;
+    fn caching_start_with(prices: *const u8, prices_length: usize, header: FileHeader) -> CacheAnswer;
+    fn caching_scan(cache: Cache, id: Id, second: u32, server: u16) -> ScanAnswer;
     fn caching_running(cache: Cache) -> Answer;
     fn caching_close(cache: Cache) -> CacheAnswer;
 }
@@ -169,12 +182,12 @@ impl Calls for Library {
                 caching_read_with(file.as_ptr(), file.len(), log, length, seconds, seconds_length, servers, servers_length)
             },
         };
-        let header = Header { class: header.class, server_count: header.server_count, home: header.home, id: header.id };
+        let header = Header { class: header.class, server_count: header.server_count, home: header.home, id: header.id.bytes };
         (header, answer.value().map(|count| count.try_into().unwrap()))
     }
 
     fn write(prices: PriceFile, header: &Header, seconds: &[u32], servers: &[u16], out: &mut [u8]) -> Result<u64, Refusal> {
-        let header = FileHeader { class: header.class, server_count: header.server_count, home: header.home, id: header.id };
+        let header = FileHeader::of(header);
         let (seconds, seconds_length) = (seconds.as_ptr(), seconds.len());
         let (servers, servers_length) = (servers.as_ptr(), servers.len());
         let (out, length) = (out.as_mut_ptr(), out.len());
@@ -216,16 +229,17 @@ impl Calls for Library {
         answer.value().map(|count| count.try_into().unwrap())
     }
 
-    fn start(prices: PriceFile, class: u8, server_count: u8, home: u8) -> (Cache, Result<(), Refusal>) {
+    fn start(prices: PriceFile, header: &Header) -> (Cache, Result<(), Refusal>) {
+        let header = FileHeader::of(header);
         let CacheAnswer { cache, answer } = match prices {
-            None => unsafe { caching_start(class, server_count, home) },
-            Some(file) => unsafe { caching_start_with(file.as_ptr(), file.len(), class, server_count, home) },
+            None => unsafe { caching_start(header) },
+            Some(file) => unsafe { caching_start_with(file.as_ptr(), file.len(), header) },
         };
         (cache, answer.value().map(|value| assert_eq!(value, 0)))
     }
 
-    fn scan(cache: &Cache, second: u32, server: u16) -> (Cache, Result<Served, Refusal>) {
-        let ScanAnswer { cache, answer, running } = unsafe { caching_scan(*cache, second, server) };
+    fn scan(cache: &Cache, id: [u8; 16], second: u32, server: u16) -> (Cache, Result<Served, Refusal>) {
+        let ScanAnswer { cache, answer, running } = unsafe { caching_scan(*cache, Id { bytes: id }, second, server) };
         let outcome = answer.outcome();
         if outcome.is_err() {
             assert_eq!(running, 0);

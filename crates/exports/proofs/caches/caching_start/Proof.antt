@@ -3,9 +3,6 @@ use borrow.Author.Needs.{needs}
 use Rattle.exports.proofs.caches.caching_start.Statement.{statement}
 use Rattle.exports.proofs.caches.caching_start.Tie as tie
 
-given-requires : tie.Need-given-requires
-given-requires c κs = search needs
-
 start-requires : tie.Need-start-requires
 start-requires c κs = search needs
 
@@ -16,4 +13,4 @@ returns : tie.Need-returns
 returns c = cc
 
 pub caching-start-spec : {M : Type 1} → statement M
-caching-start-spec = tie.close (tie.spec given-requires start-requires of-start-requires returns)
+caching-start-spec = tie.close (tie.spec start-requires of-start-requires returns)

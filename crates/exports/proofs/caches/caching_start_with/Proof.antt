@@ -3,9 +3,6 @@ use borrow.Author.Needs.{needs}
 use Rattle.exports.proofs.caches.caching_start_with.Statement.{statement}
 use Rattle.exports.proofs.caches.caching_start_with.Tie as tie
 
-given-requires : tie.Need-given-requires
-given-requires c κs = search needs
-
 start-with-requires : tie.Need-start-with-requires
 start-with-requires c κs = search needs
 
@@ -17,4 +14,4 @@ returns c = cc
 
 pub caching-start-with-spec : {M : Type 1} → statement M
 caching-start-with-spec =
-    tie.close (tie.spec given-requires start-with-requires of-start-requires returns)
+    tie.close (tie.spec start-with-requires of-start-requires returns)

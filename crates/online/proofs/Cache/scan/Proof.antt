@@ -36,7 +36,7 @@ accept-requires c κs =
     let a = told .before .before .before .before .args in (
       o,
       record { mark = c .kept .ensures (a .self) o (c .before .use-at .ensures) },
-      scan-passed (a .self) (a .second) (a .server) (sym (told .before .before .scan-fault .ensures) ∙ told .enum-told .given .1),
+      scan-passed (a .self) (a .id) (a .second) (a .server) (sym (told .before .before .scan-fault .ensures) ∙ told .enum-told .given .1),
     )
 
 running-cost-requires : tie.Need-running-cost-requires
@@ -44,7 +44,7 @@ unfolding accept
 running-cost-requires c κs =
     let told = c .before .before .before in
     let a = told .before .before .before .before .args in
-    rw (c .accept .ensures) (scan-passed (a .self) (a .second) (a .server) (sym (told .before .before .scan-fault .ensures) ∙ told .enum-told .given .1) .intact .priced)
+    rw (c .accept .ensures) (scan-passed (a .self) (a .id) (a .second) (a .server) (sym (told .before .before .scan-fault .ensures) ∙ told .enum-told .given .1) .intact .priced)
 
 mark-requires : tie.Need-mark-requires
 mark-requires c κs = search needs

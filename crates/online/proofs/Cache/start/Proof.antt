@@ -8,6 +8,9 @@ use Rattle.online.proofs.Cache.start.Tie as tie
 built-in-requires : tie.Need-built-in-requires
 built-in-requires c κs = search needs
 
+setup-in-requires : tie.Need-setup-in-requires
+setup-in-requires c κs = search needs
+
 slice-aggregate-offered-fault : tie.Need-slice-aggregate-offered-fault
 slice-aggregate-offered-fault c = search needs
 
@@ -29,14 +32,16 @@ given-requires c κs = search needs
 returns : tie.Need-returns
 returns c =
     let judged = c .before .before .before in
-    rw (built-in-given _ (judged .before .before .before .built-in .ensures))
-    (start-made _ _ _ _ _ (judged .before .ended .ensures) (judged .offered-fault .ensures) (c .given .ensures _ (c .before .of-class .ensures)))
+    let set = judged .before .before .before .setup-in .ensures in
+    rw (built-in-given _ (judged .before .before .before .before .built-in .ensures))
+    (start-made _ _ _ _ _ (judged .before .ended .ensures) (rw set at (judged .offered-fault .ensures)) (c .given .ensures _ (c .before .of-class .ensures)))
 
 pub start-spec : {M : Type 1} → statement M
 start-spec =
     tie.close
     (tie.spec
     built-in-requires
+    setup-in-requires
     slice-aggregate-offered-fault
     ended-requires
     offered-fault-requires

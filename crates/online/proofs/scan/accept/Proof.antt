@@ -131,17 +131,17 @@ loop-again c =
       rw (c .cut .ensures) all,
     )
 
-add-t21 : tie.Need-add-t21 Inv-loop μ-loop
-add-t21 c = search needs
+add-t22 : tie.Need-add-t22 Inv-loop μ-loop
+add-t22 c = search needs
 
 next-transfers-requires : tie.Need-next-transfers-requires Inv-loop μ-loop
 next-transfers-requires c κs = search needs
 
-add-t23 : tie.Need-add-t23 Inv-loop μ-loop
-add-t23 c =
-    let l = c .before .before .before .before .before .loop in
-    let a = c .before .before .before .before .before .before .before .before .args in
-    let p = c .before .before .before .before .before .before .before .before .pre in
+add-t24 : tie.Need-add-t24 Inv-loop μ-loop
+add-t24 c =
+    let l = c .before .before .before .before .before .before .loop in
+    let a = c .before .before .before .before .before .before .before .before .before .args in
+    let p = c .before .before .before .before .before .before .before .before .before .pre in
     let fits : a .cache .held + l .held < 2 ^ 32 = omega (
       arith,
       l .inv .3,
@@ -154,10 +154,10 @@ add-t23 c =
 returns : tie.Need-returns Inv-loop μ-loop
 unfolding accept
 returns c =
-    let l = c .before .before .before .before .before .loop in
-    let a = c .before .before .before .before .before .before .before .before .args in
-    let p = c .before .before .before .before .before .before .before .before .pre in
-    let none : l .left ≡ 0 = omega (arith, c .before .before .before .before .loop-test .left) in
+    let l = c .before .before .before .before .before .before .loop in
+    let a = c .before .before .before .before .before .before .before .before .before .args in
+    let p = c .before .before .before .before .before .before .before .before .before .pre in
+    let none : l .left ≡ 0 = omega (arith, c .before .before .before .before .before .loop-test .left) in
     let f = next-use (a .cache) (a .q .second) (a .q .server) in
     let g = stands (a .cache) (a .q .second) (a .q .server) in
     let h = seconds (a .cache) (a .q .second) in
@@ -188,7 +188,7 @@ accept-spec =
     cut-requires
     loop-less
     loop-again
-    add-t21
+    add-t22
     next-transfers-requires
-    add-t23
+    add-t24
     returns)

@@ -13,7 +13,7 @@ put-requires c κs = search needs
 
 returns : tie.Need-returns
 unfolding fresh
-returns c = λ table e. rw (build-const 64 0, set-one 64 (c .before .before .args .setup .home), c .put .ensures, c .before .u16-from-u8 .ensures .0, e)
+returns c = λ table e. rw (build-const 64 0, set-one 64 (c .before .before .before .args .header .home), c .put .ensures, c .before .u16-from-u8 .ensures .0, e)
 
 pub fresh-spec : {M : Type 1} → statement M
 fresh-spec = tie.close (tie.spec u16-from-u8-requires put-requires returns)

@@ -28,13 +28,13 @@ returns c =
     let a = c .before .before .before .before .before .before .before .before .before .before .before .before .before .before .before .before .before .before .before .args in
     let x = a .seconds .now in
     let y = a .servers .now in
-    let m = build (a .n) (live-mark (a .cache) x y) in
-    let k = build (a .n) (live-cost (a .cache) x y) in
+    let m = build (a .n) (live-mark (a .cache) (a .id) x y) in
+    let k = build (a .n) (live-cost (a .cache) (a .id) x y) in
     let r = c .before .before .before .before .before .before .before .before .before .before .before .before .replay .ensures in (
       r .0,
       (
-        c .before .before .before .before .before .before .clear8 .ensures ∙ rw (r .1 .0) (lent-front m (a .marks .now) (a .n) (build-length (a .n) (live-mark (a .cache) x y)) (omega arith)),
-        c .before .before .clear64 .ensures ∙ rw (r .1 .1) (lent-front k (a .costs .now) (a .n) (build-length (a .n) (live-cost (a .cache) x y)) (omega arith)),
+        c .before .before .before .before .before .before .clear8 .ensures ∙ rw (r .1 .0) (lent-front m (a .marks .now) (a .n) (build-length (a .n) (live-mark (a .cache) (a .id) x y)) (omega arith)),
+        c .before .before .clear64 .ensures ∙ rw (r .1 .1) (lent-front k (a .costs .now) (a .n) (build-length (a .n) (live-cost (a .cache) (a .id) x y)) (omega arith)),
       ),
     )
 

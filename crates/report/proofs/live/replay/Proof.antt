@@ -15,16 +15,16 @@ use Rattle.report.proofs.live.replay.Statement.{statement}
 use Rattle.report.proofs.live.replay.Tie as tie
 
 abbrev Inv-loop : tie.InvT-loop
-Inv-loop seconds servers n marks₀ costs₀ state₀ i₀ marks costs state i =
+Inv-loop id seconds servers n marks₀ costs₀ state₀ i₀ marks costs state i =
     (i ≤ n)
     × (length marks ≡ length marks₀)
     × (length costs ≡ length costs₀)
-    × (state ≡ state-after state₀ seconds servers i)
-    × (marks ≡ build i (live-mark state₀ seconds servers) ++ drop i marks₀)
-    × (costs ≡ build i (live-cost state₀ seconds servers) ++ drop i costs₀)
+    × (state ≡ state-after state₀ id seconds servers i)
+    × (marks ≡ build i (live-mark state₀ id seconds servers) ++ drop i marks₀)
+    × (costs ≡ build i (live-cost state₀ id seconds servers) ++ drop i costs₀)
 
 abbrev μ-loop : tie.MeasureT-loop
-μ-loop seconds servers n marks₀ costs₀ state₀ i₀ marks costs state i = n - i
+μ-loop id seconds servers n marks₀ costs₀ state₀ i₀ marks costs state i = n - i
 
 loop-holds : tie.Need-loop-holds Inv-loop μ-loop
 unfolding state-after scans build run
@@ -68,13 +68,13 @@ loop-again c =
     let a = s .args in
     let x = a .seconds .now in
     let y = a .servers .now in
-    let e = c .before .step .ensures ∙ turn-next (a .cache) x y (l .i) (l .state) (l .inv .3) (s .pre .0 (l .i) (omega arith)) in (
+    let e = c .before .step .ensures ∙ turn-next (a .cache) (a .id) x y (l .i) (l .state) (l .inv .3) (s .pre .0 (l .i) (omega arith)) in (
       search needs,
       simp length-set (omega arith),
       simp length-set (omega arith),
       rw (add-one (l .i), e),
-      rw (add-one (l .i), l .inv .4, e) (fill-next (live-mark (a .cache) x y) (l .i) (a .marks .now) (omega arith)),
-      rw (add-one (l .i), l .inv .5, e) (fill-next (live-cost (a .cache) x y) (l .i) (a .costs .now) (omega arith)),
+      rw (add-one (l .i), l .inv .4, e) (fill-next (live-mark (a .cache) (a .id) x y) (l .i) (a .marks .now) (omega arith)),
+      rw (add-one (l .i), l .inv .5, e) (fill-next (live-cost (a .cache) (a .id) x y) (l .i) (a .costs .now) (omega arith)),
     )
 
 same-length : tie.Need-same-length Inv-loop μ-loop

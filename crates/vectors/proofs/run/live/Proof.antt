@@ -6,10 +6,13 @@ use Rattle.vectors.proofs.run.live.Statement.{statement}
 use Rattle.vectors.proofs.run.live.Tie as tie
 
 abbrev Inv-loop : tie.InvT-loop
-Inv-loop class server-count home seconds servers cache₀ i₀ cache i = i ≤ length seconds
+Inv-loop class server-count home seconds servers id cache₀ i₀ cache i = i ≤ length seconds
 
 abbrev μ-loop : tie.MeasureT-loop
-μ-loop class server-count home seconds servers cache₀ i₀ cache i = length seconds - i
+μ-loop class server-count home seconds servers id cache₀ i₀ cache i = length seconds - i
+
+header-of-requires : tie.Need-header-of-requires Inv-loop μ-loop
+header-of-requires c κs = search needs
 
 open-requires : tie.Need-open-requires Inv-loop μ-loop
 open-requires c κs = search needs
@@ -36,7 +39,7 @@ next-requires : tie.Need-next-requires Inv-loop μ-loop
 next-requires c κs = search needs
 
 add-i : tie.Need-add-i Inv-loop μ-loop
-add-i c = search needs
+add-i c = let g = c .before .before .before .before .before .before .before .before .before .before .before .good in search needs
 
 loop-less : tie.Need-loop-less Inv-loop μ-loop
 loop-less c = search needs
@@ -56,6 +59,7 @@ live-spec =
     (tie.spec
     Inv-loop
     μ-loop
+    header-of-requires
     open-requires
     loop-holds
     returns
