@@ -9,6 +9,7 @@ pub mod Nearest
 pub mod Lent
 -- What is proved of them.
 pub mod ChoiceLaws
+pub mod SameLaws
 pub mod BytesLaws
 pub mod RefusalLaws
 pub mod NumberLaws

@@ -8,9 +8,9 @@ use native.Mathlib.Omega.{arith}
 use lib.Dec.{leb, eqb}
 use lib.ListN.{length, getD, set, take, drop, replicate, length-append, length-set, length-take, length-drop, List·getD-append}
 use lib.Seq.{paste, ext-getD, getD-set-same, getD-set-other, take-length, take-append-le, take-suc, take-all, getD-at}
-use borrow.Author.Tests.{le-leb, lt-leb, eqb-true, eq-eqb}
-use Rattle.base.specs.Choice.{pick, both, le-or-lt, same-or-not, not-both}
-use Rattle.base.specs.ChoiceLaws.{both-true, both-of}
+use borrow.Author.Tests.{le-leb, lt-leb}
+use Rattle.base.specs.Choice.{pick, both, le-or-lt, same-or-not}
+use Rattle.base.specs.ChoiceLaws.{both-true}
 
 -- the n values f 0, f 1, .. in order
 unfoldable pub build : {A : Type 0} → ℕ → (ℕ → A) → List A
@@ -123,30 +123,3 @@ unfolding every
 every-at f [] d k e l = absurd (omega arith)
 every-at f (x ∷ xs) d zero e l = both-true (f x) (every f xs) e .0
 every-at f (x ∷ xs) d (suc k) e l = every-at f xs d k (both-true (f x) (every f xs) e .1) (omega arith)
-
--- lists that are the same are equal
-pub same-equal : (xs ys : List ℕ) → same xs ys ≡ true → xs ≡ ys
-unfolding same
-same-equal [] [] e = refl
-same-equal [] (y ∷ ys) e = absurd (not-both e refl)
-same-equal (x ∷ xs) [] e = absurd (not-both e refl)
-same-equal (x ∷ xs) (y ∷ ys) e =
-    let (f, g) = both-true (eqb x y) (same xs ys) e in
-    ap₂ (λ (n : ℕ) (l : List ℕ). n ∷ l) (eqb-true x y f) (same-equal xs ys g)
-
--- and a list is the same as itself
-pub equal-same : (xs : List ℕ) → same xs xs ≡ true
-unfolding same
-equal-same [] = refl
-equal-same (x ∷ xs) = both-of (eq-eqb x x refl) (equal-same xs)
-
--- lists that are not the same are not equal, and the other way round
-pub same-unequal : (xs ys : List ℕ) → same xs ys ≡ false → xs ≢ ys
-same-unequal xs ys f e = not-both (ap (same xs) (sym e) ∙ equal-same xs) f
-
-pub unequal-same : (xs ys : List ℕ) → xs ≢ ys → same xs ys ≡ false
-unequal-same xs ys d = go (same xs ys) refl
-  where
-    go : (b : Bool) → same xs ys ≡ b → same xs ys ≡ false
-    go true e = absurd (d (same-equal xs ys e))
-    go false e = e

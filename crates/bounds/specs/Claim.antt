@@ -39,8 +39,9 @@ module _ (table : List Prices) (s : Header) (first : Cache) (calls : List Call) 
   served-count = length (taken s begun calls)
 
   -- The claim. Each call is refused as the calls up to it say, with 32 never, nor would one more call be. The requests taken all came with the start's
-  -- id, are at servers below the count and at rising seconds, and the state says what the rules give for them. The running cost is at least the least cost of the requests taken,
-  -- and at most three times that; the closing cost is at least the running cost, and at most three times the least and one transfer price.
+  -- id, are at servers below the count and at rising seconds, and the state says what the rules give for them. The running cost is at least the least
+  -- cost of the requests taken, and at most three times that; the closing cost is at least the running cost, and at most three times the least and one
+  -- transfer price.
   pub record Claim : Type 0 where
     pub refused : verdicts first calls ≡ dues s begun calls
     pub never-32 : (x : Refusal) → List·Memᴰ (Refused x) (verdicts first calls) → x .number ≢ 32

@@ -8,7 +8,8 @@ use Prim.Native.Nat.{ℕ}
 use lib.Dec.{leb, ltb, eqb}
 use borrow.Author.Tests.{not-false}
 use Rattle.base.specs.Choice.{either}
-use Rattle.base.specs.Lists.{same, same-equal}
+use Rattle.base.specs.Lists.{same}
+use Rattle.base.specs.SameLaws.{same-equal}
 use Rattle.base.specs.Refusals.{Condition, refuse, first, otherwise, Never}
 use Rattle.base.specs.NumberLaws.{empty, other, first-never}
 use Rattle.base.specs.RefusalLaws.{first-append, first-failed, first-passed}

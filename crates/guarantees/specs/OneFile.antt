@@ -9,7 +9,7 @@ use lib.Dec.{eqb, ltb}
 use borrow.Author.Tests.{leb-false, ltb-false, eqb-false, not-true, lt-leb, le-ltb, ne-eqb}
 use Rattle.base.specs.Choice.{not-both}
 use Rattle.base.specs.ChoiceLaws.{either-false, neither-of}
-use Rattle.base.specs.Lists.{same-unequal, unequal-same}
+use Rattle.base.specs.SameLaws.{same-unequal, unequal-same}
 use Rattle.base.specs.Refusals.{Condition, nth, reason}
 use Rattle.base.specs.RefusalLaws.{first-refused}
 use Rattle.base.specs.declared.Refusal.{Refusal}

@@ -53,7 +53,7 @@ encode c =
     let b = body (c .header) (c .seconds) (c .servers) in
     a ++ (bytes 4 (sum-from 0 (a ++ b)) ++ b)
 
--- what a header says that a start is given
+-- what a header says that its file is served under: all but the id
 abbrev pub setup-in : Header → Setup
 setup-in h = record { «class» = h .«class»; «server_count» = h .«server_count»; home = h .home }
 

@@ -58,7 +58,7 @@ seconds-of s = build (request-count s) (λ i. le32 s (40 + 6 * i))
 unfoldable pub servers-of : List ℕ → List ℕ
 servers-of s = build (request-count s) (λ i. le16 s (44 + 6 * i))
 
--- what a log says that a start is given
+-- what a log says that its file is served under
 abbrev pub setup-of : List ℕ → Setup
 setup-of s = record { «class» = class-of s; «server_count» = server-count s; home = home-of s }
 

@@ -15,14 +15,14 @@ pub use writer::write;
 pub use writer::write_by;
 pub use writer::write_with;
 
-// What a file is served under, and a start is given: price class, number of servers (01: stations), home server.
+// What a file is served under: price class, number of servers (01: stations), home server.
 pub struct Setup {
     pub class: u8,
     pub server_count: u8,
     pub home: u8,
 }
 
-// What a log says of its file: price class, number of servers (01: stations), home server, file id (01: pass id). Its layout is C's.
+// What a log says of its file, and a start is given: price class, number of servers (01: stations), home server, file id (01: pass id). Its layout is C's.
 #[repr(C)]
 pub struct Header {
     pub class: u8,

@@ -50,7 +50,7 @@ unfoldable pub started-by : Verdict → List Prices → Header → Started
 started-by Passed table h = record { cache = fresh table h; outcome = start.Ready }
 started-by (Refused r) table h = record { cache = zeros; outcome = start.Refused r }
 
--- a start, by what a log's header says; of that the id has no part in the verdict
+-- a start, by what a log says of its file; the id has no part in the verdict
 unfoldable pub started : Offer → Header → Started
 started o h = started-by (start-verdict o (setup-in h)) (o .tariff .table) h
 

@@ -1,4 +1,4 @@
--- The conditions of a scan, of the running cost and of a close, in 01's order; those of a start are prices' file-conditions and log's setup-conditions (37, 38, 3, 4, 5). Assumes nothing.
+-- The conditions of a scan, of the running cost and of a close, in 01's order; those of a start are prices' file-conditions and log's offered-conditions (37, 38, 3, 43, 4, 5). Assumes nothing.
 use mathlib.Core.Bool.{Bool, false, not}
 use mathlib.Core.List.{List, [], _∷_}
 use Prim.Native.Nat.{ℕ, _+_}

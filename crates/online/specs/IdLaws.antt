@@ -10,7 +10,8 @@ use lib.ListN.{length, take, drop}
 use lib.Seq.{ext-getD, getD-take, getD-drop}
 use borrow.Author.Tests.{eq-eqb, ne-eqb}
 use Rattle.base.specs.Choice.{le-or-lt, same-or-not}
-use Rattle.base.specs.Lists.{same, equal-same, unequal-same}
+use Rattle.base.specs.Lists.{same}
+use Rattle.base.specs.SameLaws.{equal-same, unequal-same}
 use Rattle.base.specs.Bytes.{byte, le32, bytes, Are-bytes}
 use Rattle.base.specs.BytesLaws.{bytes-le32}
 

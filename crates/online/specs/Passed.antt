@@ -9,7 +9,7 @@ use lib.Dec.{ltb, eqb}
 use lib.ListN.{length}
 use borrow.Author.Tests.{leb-false, ltb-false, eqb-false, not-false}
 use Rattle.base.specs.ChoiceLaws.{either-false}
-use Rattle.base.specs.Lists.{same-equal}
+use Rattle.base.specs.SameLaws.{same-equal}
 use Rattle.base.specs.Refusals.{first, otherwise, Never}
 use Rattle.base.specs.NumberLaws.{otherwise-never}
 use Rattle.base.specs.RefusalLaws.{first-passed, otherwise-passed}

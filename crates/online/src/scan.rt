@@ -164,6 +164,8 @@ fn accept(cache: Cache, o: Outline, q: Served) -> Cache
     }
     let prices = cache.prices;
     let id = cache.id;
+    let requests = cache.requests + 1;
+    let all = cache.held + held;
     Cache {
         prices,
         id,
@@ -172,9 +174,9 @@ fn accept(cache: Cache, o: Outline, q: Served) -> Cache
         second: q.second,
         last_use,
         holders,
-        requests: cache.requests + 1,
+        requests,
         transfers: next_transfers(cache.transfers, q.kept),
-        held: cache.held + held,
+        held: all,
         closed: cache.closed,
     }
 }

@@ -8,7 +8,8 @@ use lib.ListN.{getD}
 use borrow.Author.Tests.{le-ltb, lt-leb, ne-eqb}
 use Rattle.base.specs.Choice.{pick}
 use Rattle.base.specs.Refusals.{first}
-use Rattle.base.specs.Lists.{build, equal-same}
+use Rattle.base.specs.Lists.{build}
+use Rattle.base.specs.SameLaws.{equal-same}
 use Rattle.base.specs.declared.Verdict.{Verdict}
 use Rattle.base.specs.declared.Verdict.the-variants.{Passed}
 use Rattle.prices.specs.Prices.{prices-of, In-range}

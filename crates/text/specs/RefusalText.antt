@@ -12,7 +12,7 @@ use Rattle.text.specs.Lines.{ascii, line}
 abbrev pub within : ℕ → ℕ → ℕ → Bool
 within a b n = both (leb a n) (leb n b)
 
--- 31 to 35 print as state, 1 to 18, 37 and 38 as input; so does any other number, which no refusal has
+-- 31 to 35 print as state, 1 to 18 and all above 35 as input; so does any other number, which no refusal has
 unfoldable pub list-word : ℕ → List ℕ
 list-word number = pick (within 31 35 number) (ascii "state") (ascii "input")
 

@@ -131,17 +131,14 @@ loop-again c =
       rw (c .cut .ensures) all,
     )
 
-add-t22 : tie.Need-add-t22 Inv-loop μ-loop
-add-t22 c = search needs
+add-requests : tie.Need-add-requests Inv-loop μ-loop
+add-requests c = search needs
 
-next-transfers-requires : tie.Need-next-transfers-requires Inv-loop μ-loop
-next-transfers-requires c κs = search needs
-
-add-t24 : tie.Need-add-t24 Inv-loop μ-loop
-add-t24 c =
-    let l = c .before .before .before .before .before .before .loop in
-    let a = c .before .before .before .before .before .before .before .before .before .args in
-    let p = c .before .before .before .before .before .before .before .before .before .pre in
+add-all : tie.Need-add-all Inv-loop μ-loop
+add-all c =
+    let l = c .before .before .before .before .before .loop in
+    let a = c .before .before .before .before .before .before .before .before .args in
+    let p = c .before .before .before .before .before .before .before .before .pre in
     let fits : a .cache .held + l .held < 2 ^ 32 = omega (
       arith,
       l .inv .3,
@@ -150,6 +147,9 @@ add-t24 c =
       p .2 .intact .held-most,
     ) in
     search needs
+
+next-transfers-requires : tie.Need-next-transfers-requires Inv-loop μ-loop
+next-transfers-requires c κs = search needs
 
 returns : tie.Need-returns Inv-loop μ-loop
 unfolding accept
@@ -164,7 +164,7 @@ returns c =
     let used : l .last-use ≡ build 64 f = rw none at (l .inv .1) ∙ list-last 64 f in
     let copies : l .holders ≡ set-of 64 g = rw none at (l .inv .2) ∙ set-last 64 g in
     let held : l .held ≡ across 64 h = rw none at (l .inv .3) ∙ sum-last 64 h in
-    rw (used, copies, held, c .before .next-transfers .ensures, p .1 .mark, ← add-one (a .cache .requests))
+    rw (used, copies, held, c .next-transfers .ensures, p .1 .mark, ← add-one (a .cache .requests))
 
 pub accept-spec : {M : Type 1} → statement M
 accept-spec =
@@ -188,7 +188,7 @@ accept-spec =
     cut-requires
     loop-less
     loop-again
-    add-t22
+    add-requests
+    add-all
     next-transfers-requires
-    add-t24
     returns)
