@@ -1,4 +1,5 @@
 -- What the code tells of a state and of a request, one server at a time. Assumes nothing.
+use mathlib.Core.List.{List}
 use mathlib.Core.Path.{_≡_}
 use Prim.Native.Nat.{ℕ}
 use Rattle.online.specs.declared.Cache.{Cache}
@@ -21,6 +22,10 @@ pub record Serves (c : Cache) (q : Served) : Type 0 where
 -- something holds of each state with this outline and this last use at y
 abbrev pub With-use : Outline → ℕ → ℕ → (Cache → Type 0) → Type 0
 With-use o used y P = (c : Cache) → Outlines c o → used ≡ use-at c y → P c
+
+-- of each state with this outline and these last uses
+abbrev pub With-uses : Outline → List ℕ → (Cache → Type 0) → Type 0
+With-uses o uses P = (c : Cache) → Outlines c o → c .«last_use» ≡ uses → P c
 
 -- of each state with this outline that gives the request this mark
 abbrev pub With-mark : Outline → Served → (Cache → Type 0) → Type 0

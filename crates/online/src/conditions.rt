@@ -6,7 +6,7 @@ ghost use Rattle.prices.specs.Prices.{outside};
 ghost use Rattle.online.specs.Servers.{some-server};
 ghost use Rattle.online.specs.Conditions.{server-broken, broken};
 ghost use Rattle.online.specs.Answers.{scan-verdict, running-verdict, close-verdict};
-ghost use Rattle.online.specs.Serving.{Outlines, With-use};
+ghost use Rattle.online.specs.Serving.{Outlines, With-use, With-uses};
 ghost use Rattle.online.specs.Looked.{used-in};
 use crate::Cache;
 use crate::ids::differ;
@@ -82,11 +82,10 @@ fn some_used(last_use: &[u32; 64]) -> bool
 }
 
 // Some server is at fault. The holders are asked one by one; any other is at fault if it has a last use at all.
-fn servers_broken(cache: Cache, o: Outline) -> bool
-    requires { ⌜ Outlines cache o ⌝ }
-    ensures { λ r. ⌜ r ≡ some-server 64 (server-broken cache) ⌝ }
+fn servers_broken(last_use: [u32; 64], o: Outline) -> bool
+    ensures { λ r. ⌜ With-uses o last_use (λ c. r ≡ some-server 64 (server-broken c)) ⌝ }
 {
-    let mut rest = cache.last_use;
+    let mut rest = last_use;
     let mut left = o.holders;
     while left != 0 {
         let y = member(left);
@@ -133,7 +132,8 @@ fn broken(cache: Cache, o: Outline) -> bool
     if 256000000 < cache.held {
         return true;
     }
-    servers_broken(cache, o)
+    let last_use = cache.last_use;
+    servers_broken(last_use, o)
 }
 
 // What refuses a scan: 11, 12, 32, 33, 39, 34, 35.

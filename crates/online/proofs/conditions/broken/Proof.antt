@@ -1,7 +1,7 @@
 -- `online::conditions::broken` meets its contract. Assumes nothing.
 use borrow.Author.Needs.{needs}
 use mathlib.Core.Bool.{not}
-use mathlib.Core.Path.{sym, ap, _∙_}
+use mathlib.Core.Path.{refl, sym, ap, _∙_}
 use borrow.Author.Tests.{lt-ltb, le-ltb, le-leb, lt-leb, eq-eqb, ne-eqb}
 use Rattle.online.specs.Conditions.{any-of, faults, broken}
 use Rattle.online.specs.ConditionLaws.{any-holds, either-fails}
@@ -60,26 +60,27 @@ unfolding broken
 returns-9 c = sym (any-holds (faults (c .before .before .before .before .before .before .before .before .before .before .before .before .before .before .before .before .before .before .before .args .cache)) 8 (lt-ltb _ _ (c .if9 .taken)))
 
 servers-broken-requires : tie.Need-servers-broken-requires
-servers-broken-requires c κs = c .before .before .before .before .before .before .before .before .before .before .before .before .before .before .before .before .before .before .before .pre
+servers-broken-requires c κs = search needs
 
 returns-10 : tie.Need-returns-10
 unfolding broken any-of
 returns-10 c =
+    let start = c .before .before .before .before .before .before .before .before .before .before .before .before .before .before .before .before .before .before .before .before .before in
     rw (
-      ← c .before .before .before .before .before .before .before .before .before .before .before .before .before .before .before .before .before .before .before .price-outside .ensures,
-      c .before .before .before .before .before .before .before .before .before .before .before .before .before .before .before .before .before .before .if1 .left,
-      ← c .before .before .before .before .before .before .before .before .before .before .before .before .before .before .before .before .before .count-outside .ensures,
-      c .before .before .before .before .before .before .before .before .before .before .before .before .before .before .before .before .if2 .left,
-      le-ltb _ _ (c .before .before .before .before .before .before .before .before .before .before .before .before .before .before .if3 .left),
-      lt-leb _ _ (rw (c .before .before .before .before .before .before .before .before .before .before .before .before .before .u16-from-u8 .ensures .0) at (c .before .before .before .before .before .before .before .before .before .before .before .before .if4 .left)),
-      ← c .before .before .before .before .before .before .before .before .before .before .before .copy-at .ensures,
-      c .before .before .before .before .before .before .before .before .before .before .if5 .left,
-      eq-eqb _ _ (rw (c .before .before .before .before .before .before .before .before .before .use-at .ensures) at (c .before .before .before .before .before .before .before .if6 .left)),
-      le-ltb _ _ (c .before .before .before .before .before .if7 .left),
-      le-ltb _ _ (c .before .before .before .if8 .left),
-      le-ltb _ _ (c .before .if9 .left),
+      ← c .before .before .before .before .before .before .before .before .before .before .before .before .before .before .before .before .before .before .before .before .price-outside .ensures,
+      c .before .before .before .before .before .before .before .before .before .before .before .before .before .before .before .before .before .before .before .if1 .left,
+      ← c .before .before .before .before .before .before .before .before .before .before .before .before .before .before .before .before .before .before .count-outside .ensures,
+      c .before .before .before .before .before .before .before .before .before .before .before .before .before .before .before .before .before .if2 .left,
+      le-ltb _ _ (c .before .before .before .before .before .before .before .before .before .before .before .before .before .before .before .if3 .left),
+      lt-leb _ _ (rw (c .before .before .before .before .before .before .before .before .before .before .before .before .before .before .u16-from-u8 .ensures .0) at (c .before .before .before .before .before .before .before .before .before .before .before .before .before .if4 .left)),
+      ← c .before .before .before .before .before .before .before .before .before .before .before .before .copy-at .ensures,
+      c .before .before .before .before .before .before .before .before .before .before .before .if5 .left,
+      eq-eqb _ _ (rw (c .before .before .before .before .before .before .before .before .before .before .use-at .ensures) at (c .before .before .before .before .before .before .before .before .if6 .left)),
+      le-ltb _ _ (c .before .before .before .before .before .before .if7 .left),
+      le-ltb _ _ (c .before .before .before .before .if8 .left),
+      le-ltb _ _ (c .before .before .if9 .left),
     )
-    (c .servers-broken .ensures ∙ sym (either-fails _))
+    (c .servers-broken .ensures (start .args .cache) (start .pre) refl ∙ sym (either-fails _))
 
 pub broken-spec : {M : Type 1} → statement M
 broken-spec =

@@ -1,7 +1,7 @@
 -- `online::conditions::servers_broken` meets its contract. Assumes nothing.
 use borrow.Author.Needs.{needs}
 use mathlib.Core.Bool.{true, false}
-use mathlib.Core.Path.{_≡_, refl, sym, ap, _∙_}
+use mathlib.Core.Path.{_≡_, sym, ap, _∙_}
 use native.Mathlib.Omega.{arith}
 use lib.ListN.{length, getD, length-set}
 use Rattle.base.specs.Sets.{members}
@@ -40,16 +40,14 @@ server-broken-requires : tie.Need-server-broken-requires Inv-loop μ-loop
 server-broken-requires c κs = search needs
 
 returns : tie.Need-returns Inv-loop μ-loop
-returns c =
+returns c = λ s o u.
     let k = c .before .before .before in
     let l = k .before .before .loop in
-    let g = k .before .before .before .before in
-    let a = g .args .cache in
     let y = k .member .result in
-    let used : getD (l .rest) (c .before .before .size-from-u16 .result) 0 ≡ use-at a y =
-    rw (c .before .before .size-from-u16 .ensures .0) (l .inv .1 a (g .pre) refl .waits y (k .member .ensures .0)) in
-    let e : server-broken a y ≡ true = sym (c .before .server-broken .ensures a (g .pre) used) ∙ c .if1 .taken in
-    sym (some-server-one 64 (server-broken a) y (k .member .ensures .1) e)
+    let used : getD (l .rest) (c .before .before .size-from-u16 .result) 0 ≡ use-at s y =
+    rw (c .before .before .size-from-u16 .ensures .0) (l .inv .1 s o u .waits y (k .member .ensures .0)) in
+    let e : server-broken s y ≡ true = sym (c .before .server-broken .ensures s o used) ∙ c .if1 .taken in
+    sym (some-server-one 64 (server-broken s) y (k .member .ensures .1) e)
 
 mul-rest : tie.Need-mul-rest Inv-loop μ-loop
 mul-rest c = search needs
@@ -83,12 +81,10 @@ some-used-requires : tie.Need-some-used-requires Inv-loop μ-loop
 some-used-requires c κs = search needs
 
 returns-2 : tie.Need-returns-2 Inv-loop μ-loop
-returns-2 c =
+returns-2 c = λ s o u.
     let l = c .before .before .before .loop in
-    let g = c .before .before .before .before .before in
-    let a = g .args .cache in
     let z : l .left ≡ 0 = omega arith in
-    c .some-used .ensures ∙ looked-last a (l .rest) (rw z at (l .inv .1 a (g .pre) refl))
+    c .some-used .ensures ∙ looked-last s (l .rest) (rw z at (l .inv .1 s o u))
 
 pub servers-broken-spec : {M : Type 1} → statement M
 servers-broken-spec =
