@@ -1,23 +1,23 @@
 -- Two ids compared four bytes at a time: they are the same exactly if each of their four numbers is. Assumes nothing.
-use mathlib.Core.Bool.{true, not}
+use mathlib.Core.Bool.{true, false, not}
 use mathlib.Core.List.{List}
-use mathlib.Core.Logic.{_⊎_, inl, inr, _≢_}
+use mathlib.Core.Logic.{_⊎_, inl, inr}
 use mathlib.Core.Path.{_≡_, sym, ap, _∙_}
 use native.Mathlib.Omega.{arith}
 use Prim.Native.Nat.{ℕ, _+_, _-_, _≤_, _<_}
 use lib.Dec.{eqb}
 use lib.ListN.{length, take, drop}
 use lib.Seq.{ext-getD, getD-take, getD-drop}
-use borrow.Author.Tests.{eq-eqb, ne-eqb}
-use Rattle.base.specs.Choice.{le-or-lt, same-or-not}
+use borrow.Author.Tests.{eqb-true, eqb-false, not-true, not-false}
+use Rattle.base.specs.Choice.{le-or-lt, true-or-false}
 use Rattle.base.specs.Lists.{same}
 use Rattle.base.specs.SameLaws.{equal-same, unequal-same}
 use Rattle.base.specs.Bytes.{byte, le32, bytes, Are-bytes}
 use Rattle.base.specs.BytesLaws.{bytes-le32}
 
 -- lists that differ in four bytes are not the same
-pub words-apart : (a b : List ℕ) (k : ℕ) → le32 a k ≢ le32 b k → not (same a b) ≡ true
-words-apart a b k d = ap not (unequal-same a b (λ e. d (ap (λ (x : List ℕ). le32 x k) e)))
+pub words-apart : (a b : List ℕ) (k : ℕ) → not (eqb (le32 a k) (le32 b k)) ≡ true → not (same a b) ≡ true
+words-apart a b k d = ap not (unequal-same a b (λ e. eqb-false _ _ (not-true _ d) (ap (λ (x : List ℕ). le32 x k) e)))
 
 module _ (a b : List ℕ) (long : length a ≡ 16) (wide : length b ≡ 16) (small : Are-bytes a) (low : Are-bytes b) where
   -- where the numbers of four bytes are the same, so is each byte
@@ -44,9 +44,16 @@ module _ (a b : List ℕ) (long : length a ≡ 16) (wide : length b ≡ 16) (sma
       go i l (inl p) (inl q) (inl r) = agree 12 (omega arith) h i r (omega arith)
 
   -- and where three are the same, the last one decides
-  pub last-word : le32 a 0 ≡ le32 b 0 → le32 a 4 ≡ le32 b 4 → le32 a 8 ≡ le32 b 8 → not (eqb (le32 a 12) (le32 b 12)) ≡ not (same a b)
-  last-word e f g = go (same-or-not (le32 a 12) (le32 b 12))
+  pub last-word : not (eqb (le32 a 0) (le32 b 0)) ≡ false → not (eqb (le32 a 4) (le32 b 4)) ≡ false → not (eqb (le32 a 8) (le32 b 8)) ≡ false
+      → not (eqb (le32 a 12) (le32 b 12)) ≡ not (same a b)
+  last-word e f g = go (true-or-false (not (eqb (le32 a 12) (le32 b 12))))
     where
-      go : (le32 a 12 ≡ le32 b 12) ⊎ (le32 a 12 ≢ le32 b 12) → not (eqb (le32 a 12) (le32 b 12)) ≡ not (same a b)
-      go (inl h) = ap not (eq-eqb _ _ h ∙ sym (ap (same a) (sym (same-words e f g h)) ∙ equal-same a))
-      go (inr h) = ap not (ne-eqb _ _ h) ∙ sym (words-apart a b 12 h)
+      equal : (k : ℕ) → not (eqb (le32 a k) (le32 b k)) ≡ false → le32 a k ≡ le32 b k
+      equal k h = eqb-true _ _ (not-false _ h)
+
+      go : (not (eqb (le32 a 12) (le32 b 12)) ≡ true) ⊎ (not (eqb (le32 a 12) (le32 b 12)) ≡ false)
+          → not (eqb (le32 a 12) (le32 b 12)) ≡ not (same a b)
+      go (inl h) = h ∙ sym (words-apart a b 12 h)
+      go (inr h) =
+          let z = same-words (equal 0 e) (equal 4 f) (equal 8 g) (equal 12 h) in
+          h ∙ sym (ap not (ap (same a) (sym z) ∙ equal-same a))
