@@ -129,6 +129,13 @@ struct caching_answer caching_least(const uint8_t *log, size_t log_length, uint6
 struct caching_answer caching_least_with(const uint8_t *prices, size_t prices_length, const uint8_t *log, size_t log_length,
                                          uint64_t *costs, size_t costs_length);
 
+/* value: the quote, which is at least the least cost and at most twice that: for each request the smaller of the transfer price and the hold price times
+ * the seconds since its server's previous request (home has one at second 0), or the transfer price if there was none; and the hold price times the last
+ * request's second */
+struct caching_answer caching_quote(const uint8_t *log, size_t log_length);
+
+struct caching_answer caching_quote_with(const uint8_t *prices, size_t prices_length, const uint8_t *log, size_t log_length);
+
 /* the state has the prices of the class and the file's id; 43 for class 7 */
 struct caching_cache_answer caching_start(struct caching_header header);
 

@@ -19,7 +19,7 @@ use std::hint::black_box;
 
 const REQUESTS: [usize; 4] = [0, 64, 512, 2_048];
 const SERVERS: [u8; 3] = [1, 8, 64];
-const CALLS: [&str; 10] = ["plan", "least", "check", "read", "write", "scan", "scan in place", "close", "sum", "sum by bytes"];
+const CALLS: [&str; 11] = ["plan", "least", "quote", "check", "read", "write", "scan", "scan in place", "close", "sum", "sum by bytes"];
 const START: &str = "start with a file";
 const CLASSES: [usize; 3] = [1, 8, 256];
 const ROWS: [u32; 3] = [4_096, 100_000, 1_000_000];
@@ -241,6 +241,10 @@ fn measure(call: &str, case: &Case) -> Times {
                 &mut || used(Fast::least(None, black_box(file), &mut costs_b)),
             )
         }
+        "quote" => {
+            assert_eq!(Library::quote(None, file), Fast::quote(None, file));
+            times(&mut || used(Library::quote(None, black_box(file))), &mut || used(Fast::quote(None, black_box(file))))
+        }
         "check" => {
             assert_eq!(Library::check(None, file, rows), Fast::check(None, file, rows));
             times(
@@ -458,6 +462,7 @@ fn main() {
     if !calls.is_empty() {
         show_summary(&calls);
         show_calls(&calls);
+        show_quotes(&calls);
     }
     if !starts.is_empty() {
         show_starts(&starts);
@@ -496,6 +501,18 @@ fn show_calls(lines: &[Line]) {
     for (i, line) in lines.iter().enumerate() {
         let before = if line.size == 0 { None } else { lines.get(i.wrapping_sub(1)) };
         println!("| {} | {} | {} | {} |", line.name, line.servers, line.size, line.columns(before));
+    }
+}
+
+/// The least cost beside the quote, where both were measured.
+fn show_quotes(lines: &[Line]) {
+    let longest = |call: &str| lines.iter().find(|line| line.name == call && line.servers == 64 && line.size == 2_048);
+    let (Some(least), Some(quote)) = (longest("least"), longest("quote")) else { return };
+    println!("\n## The least cost beside the quote, 64 servers and 2,048 requests\n");
+    println!("| version | least | quote | least / quote |");
+    println!("|---|---:|---:|---:|");
+    for (version, least, quote) in [("library", least.least.library, quote.least.library), ("Rust", least.least.rust, quote.least.rust)] {
+        println!("| {version} | {} | {} | {:.1} |", show(least), show(quote), least / quote);
     }
 }
 

@@ -46,6 +46,9 @@ int main(void)
     for (int k = 0; k < 5; k++)
         printf("least %d: %llu\n", k, (unsigned long long)costs[k]);
 
+    say("quote", caching_quote(log, 64));
+    say("quote nothing", caching_quote(NULL, 0));
+
     struct caching_cache_answer live = caching_start(header);
     say("start", live.answer);
     printf("id: %d\n", memcmp(&live.cache.id, &header.id, sizeof header.id) == 0);
@@ -96,6 +99,9 @@ int main(void)
     for (int k = 0; k < 5; k++)
         printf("least %d: %llu\n", k, (unsigned long long)costs[k]);
     say("least with wrong", caching_least_with(wrong, 20, log, 64, costs, 5));
+    say("quote with", caching_quote_with(prices, 20, log, 64));
+    say("quote with wrong", caching_quote_with(wrong, 20, log, 64));
+    say("quote with nothing", caching_quote_with(NULL, 0, log, 64));
 
     header.file_class = 2;
     say("start with no such class", caching_start_with(prices, 20, header).answer);

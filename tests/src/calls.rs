@@ -6,7 +6,7 @@ use crate::log::{self, Header, Log};
 use crate::online::{self, Cache, Served};
 use crate::planner::{self, letter};
 use crate::prices::{PriceFile, Prices, Table};
-use crate::{refuse, Refusal};
+use crate::{quote, refuse, Refusal};
 
 /// An implementation of the public calls. Those that need prices take a price file or none, and judge it at each call.
 pub trait Calls {
@@ -26,6 +26,9 @@ pub trait Calls {
 
     /// The number of least costs: one for none, one, .. and all requests.
     fn least(prices: PriceFile, file: &[u8], costs: &mut [u64]) -> Result<u32, Refusal>;
+
+    /// The quote.
+    fn quote(prices: PriceFile, file: &[u8]) -> Result<u64, Refusal>;
 
     /// A state for what a log's header says, of zeros if refused.
     fn start(prices: PriceFile, header: &Header) -> (Cache, Result<(), Refusal>);
@@ -111,6 +114,11 @@ impl Calls for Simple {
         check_room(costs.len(), least.len())?;
         put(costs, &least);
         Ok(least.len() as u32)
+    }
+
+    fn quote(prices: PriceFile, file: &[u8]) -> Result<u64, Refusal> {
+        let (prices, log) = accepted(prices, file)?;
+        Ok(quote::quote(prices, &log).total())
     }
 
     fn start(prices: PriceFile, header: &Header) -> (Cache, Result<(), Refusal>) {

@@ -13,6 +13,7 @@ pub mod log;
 pub mod online;
 pub mod planner;
 pub mod prices;
+pub mod quote;
 pub mod random;
 pub mod search;
 pub mod sheet;

@@ -20,6 +20,8 @@ least 1: 11
 least 2: 22
 least 3: 31
 least 4: 42
+quote: 0 0 52 0
+quote nothing: 1 0 0 0
 start: 0 0 0 0
 id: 1
 scan of another id: 39 0 0 0
@@ -58,6 +60,9 @@ least 2: 44
 least 3: 62
 least 4: 84
 least with wrong: 38 1 0 0
+quote with: 0 0 104 0
+quote with wrong: 38 1 0 0
+quote with nothing: 37 0 0 0
 start with no such class: 3 0 0 0
 start with: 0 0 0 0
 prices: 2 20

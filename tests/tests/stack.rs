@@ -53,6 +53,15 @@ fn check() {
 }
 
 #[test]
+fn quote() {
+    on(20_000, || {
+        for prices in [None, Some(&prices()[..])] {
+            assert!(Library::quote(prices, &longest()).is_ok());
+        }
+    });
+}
+
+#[test]
 fn read_and_write() {
     on(20_000, || {
         let (mut seconds, mut servers) = (vec![0; 2_048], vec![0; 2_048]);

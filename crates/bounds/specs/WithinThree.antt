@@ -12,7 +12,8 @@ use Rattle.model.specs.Sums.{sum}
 use Rattle.model.specs.Requests.{Requests, previous, Rising, Within}
 use Rattle.model.specs.RequestLaws.{none-some, rises-le}
 use Rattle.model.specs.Table.{best}
-use Rattle.model.specs.Bounds.{least-own, best-bounded}
+use Rattle.model.specs.Bounds.{best-bounded}
+use Rattle.model.specs.Quote.{least-own}
 use Rattle.online.specs.Servers.{across}
 use Rattle.bounds.specs.History.{last-use, held, transfers, remaining, running-cost, closing-cost}
 use Rattle.bounds.specs.HistoryLaws.{Marked, again, back, sent, marked, Link, never, since, link, transfers-S, transfers-K, transfers-most}

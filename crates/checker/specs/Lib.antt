@@ -4,7 +4,6 @@ pub mod Answers
 -- How the code comes by it, and why that is the same.
 pub mod Reading
 pub mod ReadingLaws
-pub mod LogLaws
 pub mod Search
 pub mod SearchLaws
 pub mod KeyLaws

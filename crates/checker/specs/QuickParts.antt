@@ -8,8 +8,10 @@ use lib.ListN.{length}
 use Rattle.base.specs.declared.Verdict.{Verdict}
 use Rattle.base.specs.Refusals.{Condition, refuse, first, each, otherwise}
 use Rattle.base.specs.RefusalLaws.{first-append}
-use Rattle.log.specs.Fields.{server-count, home-of, request-count}
+use Rattle.log.specs.Fields.{server-count, home-of, request-count, seconds-of}
+use Rattle.log.specs.Conditions.{before}
 use Rattle.model.specs.LogRequests.{requests-in}
+use Rattle.model.specs.LogRequestLaws.{last-is}
 use Rattle.model.specs.Checking.{row-count}
 use Rattle.checker.specs.Quick.{row-tests, copy-tests, serve-test, schedule-tests}
 
@@ -42,8 +44,8 @@ schedule-parts log ns = four-parts (whole-test ns) (row-part log ns) (copy-part 
 
 -- two parts, from the numbers that were read
 pub row-part-read : (log ns : List ℕ) (count n last : ℕ) (v : Verdict) → count ≡ server-count log → n ≡ request-count log
-    → last ≡ requests-in log .time (request-count log) → v ≡ first (each (row-tests count n last ns) (row-count ns)) → first (row-part log ns) ≡ v
-row-part-read log ns count n last v p q r e = rw (← r, ← p, ← q) (sym e)
+    → last ≡ before (seconds-of log) (request-count log) → v ≡ first (each (row-tests count n last ns) (row-count ns)) → first (row-part log ns) ≡ v
+row-part-read log ns count n last v p q r e = rw (← last-is log, ← r, ← p, ← q) (sym e)
 
 pub copy-part-read : (log ns : List ℕ) (count home : ℕ) (v : Verdict) → count ≡ server-count log → home ≡ home-of log
     → v ≡ first (copy-tests count home ns) → first (copy-part log ns) ≡ v

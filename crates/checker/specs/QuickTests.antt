@@ -19,13 +19,13 @@ use Rattle.log.specs.Ranges.{Sound}
 use Rattle.base.specs.ChoiceLaws.{either-false}
 use Rattle.model.specs.Requests.{Requests, requests}
 use Rattle.model.specs.LogRequests.{requests-in}
+use Rattle.model.specs.LogRequestLaws.{home-is, time-read, server-read}
 use Rattle.model.specs.Schedule.{hold, held}
 use Rattle.model.specs.Standing.{stands}
 use Rattle.model.specs.RowForm.{row-at, rows-of, fits}
 use Rattle.model.specs.RowLaws.{row-member}
 use Rattle.model.specs.Checking.{row-count, misfits, misplaced, row-conditions, backed, copy-condition, serve-condition, schedule-conditions}
 use Rattle.checker.specs.Reading.{server-of, second-of}
-use Rattle.checker.specs.LogLaws.{home-is, time-read, server-read}
 use Rattle.checker.specs.Search.{In-order}
 use Rattle.checker.specs.KeyLaws.{Shaped, keys-up}
 use Rattle.checker.specs.Quick.{covers, reaches, first-of, standing-at, row-tests, any-below, unbacked, hold-test, transfer-test, copy-tests, stands-at, served, serve-test, schedule-tests}

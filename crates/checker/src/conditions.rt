@@ -8,7 +8,6 @@ ghost use Rattle.base.specs.Refusals.{first, each};
 ghost use Rattle.log.specs.Ranges.{Sound};
 ghost use Rattle.log.specs.Fields.{request-count};
 ghost use Rattle.model.specs.RowForm.{fits};
-ghost use Rattle.model.specs.LogRequests.{requests-in};
 ghost use Rattle.model.specs.Checking.{row-count, misplaced};
 ghost use Rattle.checker.specs.Reading.{as-row};
 ghost use Rattle.checker.specs.Search.{In-order};
@@ -26,11 +25,13 @@ use base::Refusal;
 use base::Verdict;
 use base::bytes::at;
 use base::bytes::at16;
-use base::bytes::at32;
 use base::refusals::or_else;
 use base::widths::size_from_u16;
 use base::widths::u32_from_u8;
 use base::widths::u32_from_u16;
+use log::last_second;
+use log::second_of;
+use log::server_of;
 
 // 15: a kind above 1, no request, or a row that does not fit.
 fn misfits(count: u32, n: u16, last: u32, r: Quad) -> bool
@@ -97,9 +98,8 @@ fn served(log: &[u8], ns: &[u32], hints: &mut [usize; 65], i: u16) -> bool
     requires { ⌜ In-order (now ns) ⌝ }
     ensures { λ r. ⌜ r ≡ served (now (log .entry)) (now (ns .entry)) i ⌝ }
 {
-    let k = 6 * size_from_u16(i);
-    let second = at32(log, 40 + k);
-    let server = at16(log, 44 + k);
+    let second = second_of(log, i);
+    let server = server_of(log, i);
     stands(
         ns,
         hints,
@@ -128,17 +128,6 @@ fn requests_fault(log: &[u8], ns: &[u32]) -> Verdict
         i += 1;
     }
     Verdict::Passed
-}
-
-// The second of the last request, 0 where there is none.
-fn last_second(log: &[u8]) -> u32
-    ensures { λ r. ⌜ r ≡ requests-in (now (log .entry)) .time (request-count (now (log .entry))) ⌝ }
-{
-    let n = at16(log, 6);
-    if n == 0 {
-        return 0;
-    }
-    at32(log, 34 + 6 * size_from_u16(n))
 }
 
 // What the numbers of a schedule are answered, for a log.

@@ -12,6 +12,8 @@ use Rattle.planner.specs.declared.Planned.{Planned}
 use Rattle.planner.specs.declared.Planned.the-variants as plan
 use Rattle.planner.specs.declared.LeastCosts.{LeastCosts}
 use Rattle.planner.specs.declared.LeastCosts.the-variants as least
+use Rattle.quote.specs.declared.Quoted.{Quoted}
+use Rattle.quote.specs.declared.Quoted.the-variants as quote
 use Rattle.online.specs.declared.StartOutcome.{StartOutcome}
 use Rattle.online.specs.declared.StartOutcome.the-variants as start
 use Rattle.online.specs.declared.Started.{Started}
@@ -64,6 +66,11 @@ of-plan (plan.Refused r) = refused r
 abbrev pub of-least : LeastCosts → Answer
 of-least (least.Costs count) = accepted count 0
 of-least (least.Refused r) = refused r
+
+-- the quote, or the refusal
+abbrev pub of-quote : Quoted → Answer
+of-quote (quote.Cost cost) = accepted cost 0
+of-quote (quote.Refused r) = refused r
 
 -- nothing more, or the refusal
 abbrev pub of-start : StartOutcome → Answer

@@ -1,10 +1,11 @@
-// Checker, planner and least costs.
+// Checker, planner, least costs and quote.
 ghost use mathlib.Core.Path.{_≡_};
 ghost use lib.ListN.{length};
 ghost use Rattle.prices.specs.Tariff.{built-in, price-file};
 ghost use Rattle.checker.specs.Answers.{check-answer};
 ghost use Rattle.planner.specs.Answers.{plan-verdict, planned, marks-left, rows-left, least-verdict, least-answer, costs-left};
-ghost use Rattle.exports.specs.Answers.{of-check, of-plan, of-least};
+ghost use Rattle.quote.specs.Answers.{quote-answer};
+ghost use Rattle.exports.specs.Answers.{of-check, of-plan, of-least, of-quote};
 use crate::Answer;
 use crate::accepted;
 use crate::refused;
@@ -12,6 +13,7 @@ use base::widths::u64_from_u32;
 use checker::Checked;
 use planner::LeastCosts;
 use planner::Planned;
+use quote::Quoted;
 
 fn of_check(outcome: Checked) -> Answer
     ensures { λ r. ⌜ r ≡ of-check outcome ⌝ }
@@ -97,4 +99,29 @@ pub extern "C" fn caching_least_with(prices: &[u8], log: &[u8], costs: &mut [u64
     ensures { λ _. ⌜ now (costs .exit) ≡ costs-left (price-file (now (prices .entry))) (now (log .entry)) (now (costs .entry)) ⌝ }
 {
     of_least(planner::least_with(prices, log, costs))
+}
+
+fn of_quote(outcome: Quoted) -> Answer
+    ensures { λ r. ⌜ r ≡ of-quote outcome ⌝ }
+{
+    match outcome {
+        Quoted::Cost(cost) => accepted(cost, 0),
+        Quoted::Refused(r) => refused(r),
+    }
+}
+
+// The answer's value is the quote.
+#[no_mangle]
+pub extern "C" fn caching_quote(log: &[u8]) -> Answer
+    ensures { λ r. ⌜ r ≡ of-quote (quote-answer built-in (now (log .entry))) ⌝ }
+{
+    of_quote(quote::quote(log))
+}
+
+// The answer's value is the quote.
+#[no_mangle]
+pub extern "C" fn caching_quote_with(prices: &[u8], log: &[u8]) -> Answer
+    ensures { λ r. ⌜ r ≡ of-quote (quote-answer (price-file (now (prices .entry))) (now (log .entry))) ⌝ }
+{
+    of_quote(quote::quote_with(prices, log))
 }

@@ -21,7 +21,7 @@ use Rattle.prices.specs.Offer.{Offer, offer-of}
 use Rattle.log.specs.declared.Setup.{Setup}
 use Rattle.log.specs.declared.Header.{Header}
 use Rattle.log.specs.Fields.{request-count, seconds-of, servers-of, length-for}
-use Rattle.log.specs.Conditions.{setup-conditions, offered-conditions, log-conditions}
+use Rattle.log.specs.Conditions.{setup-conditions, offered-conditions, log-conditions, verdict-of}
 use Rattle.log.specs.Contents.{setup-in, Contents, contents-conditions, encode}
 use Rattle.log.specs.Answers.{read-verdict, write-verdict}
 use Rattle.log.specs.AnswerLaws.{read-passed, write-passed}
@@ -157,6 +157,11 @@ least-left t log costs =
 
     room : least-verdict t log (length costs) ≡ Passed → (i : ℕ) → nth outputs i .holds ≡ false
     room e = first-passed outputs .0 (append-passed (log-conditions (t .table) log) outputs .0 (otherwise-passed (t .judged) _ e .1) .1)
+
+-- a quote, which is lent nothing
+pub quote-decided : (t : Tariff) (g : Given t) (log : List ℕ) → Decided (conditions-of g ++ log-conditions (t .table) log) (verdict-of t log)
+unfolding verdict-of
+quote-decided t g log = decided-after t g (log-conditions (t .table) log)
 
 -- the online cache's calls; they are lent nothing
 pub start-decided : (t : Tariff) (g : Given t) (s : Setup) → Decided (conditions-of g ++ offered-conditions (offer-of g) s) (start-verdict (offer-of g) s)

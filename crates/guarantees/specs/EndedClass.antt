@@ -6,7 +6,7 @@ use mathlib.Core.Path.{_≡_, refl}
 use native.Mathlib.Omega.{arith}
 use Prim.Native.Nat.{ℕ, _≤_, _<_}
 use lib.Dec.{eqb}
-use lib.ListN.{length}
+use lib.ListN.{length, getD}
 use borrow.Author.Tests.{eqb-true, eq-eqb}
 use Rattle.base.specs.Choice.{not-both, true-or-false}
 use Rattle.base.specs.Refusals.{Never}
@@ -30,6 +30,8 @@ use Rattle.bounds.specs.Calls.{Call}
 use Rattle.bounds.specs.Claim.{Claim}
 use Rattle.report.specs.Live.{opened}
 use Rattle.report.specs.LiveLaws.{starts}
+use Rattle.planner.specs.Answers.{least-costs}
+use Rattle.guarantees.specs.Quotes.{Within-twice, whole-within}
 use Rattle.guarantees.specs.Demand3.{Planned-best, planned-best, Ready, for-log, online-within-three}
 
 -- eight classes are built in
@@ -93,6 +95,8 @@ pub record Old-log (log : List ℕ) : Type 0 where
   pub accepted : Accepted built-in log
   pub prices-are : prices-in built-in log ≡ priced 1 1000000
   pub planned : (k : ℕ) → k ≤ request-count log → Planned-best built-in log k
+  -- it is quoted too
+  pub quoted : Within-twice built-in log (getD (least-costs built-in log) (request-count log) 0)
   -- a cache that a program starts for it is within threefold, after every list of calls
   pub started : Ready built-in none (header-of log) (opened built-in log)
   pub within : (calls : List Call) → Claim classes (header-of log) (opened built-in log) calls
@@ -110,6 +114,7 @@ old-log log sound e =
       accepted = a;
       prices-are = rw e;
       planned = λ k h. planned-best built-in log k a h;
+      quoted = whole-within built-in log a;
       started = ready;
       within = λ calls. online-within-three built-in none (header-of log) (opened built-in log) ready calls;
       unstarted = started-43 (setup-of log) .1 e;

@@ -11,6 +11,7 @@ pub mod Sources
 pub mod Demand3
 pub mod Closes
 pub mod OneFile
+pub mod Quotes
 pub mod SheetColumns
 pub mod PriceFiles
 pub mod EndedClass

@@ -22,6 +22,8 @@ use Rattle.model.specs.LogRequests.{prices-in}
 use Rattle.model.specs.LogRequestLaws.{log-priced}
 use Rattle.checker.specs.Answers.{check-verdict-of}
 use Rattle.planner.specs.Answers.{plan-verdict, least-verdict}
+use Rattle.quote.specs.declared.Quoted.the-variants as quote′
+use Rattle.quote.specs.Answers.{quoted, quote-answer}
 use Rattle.online.specs.declared.Cache.{Cache}
 use Rattle.online.specs.Answers.{start-verdict, log-start-verdict}
 use Rattle.bounds.specs.Calls.{Call, Taken-close}
@@ -55,13 +57,14 @@ pub record First-of-all (file : List ℕ) (r : Refusal) : Type 0 where
   pub check : (log rows : List ℕ) → check-verdict-of (price-file file) log rows ≡ Refused r
   pub plan : (log : List ℕ) (marks rows : ℕ) → plan-verdict (price-file file) log marks rows ≡ Refused r
   pub least : (log : List ℕ) (costs : ℕ) → least-verdict (price-file file) log costs ≡ Refused r
+  pub quote : (log : List ℕ) → quote-answer (price-file file) log ≡ quote′.Refused r
   pub start : (s : Setup) → start-verdict (file-offer file) s ≡ Refused r
   pub log-start : (s : Setup) → log-start-verdict (price-file file) s ≡ Refused r
   pub sheet : (log : List ℕ) (text : ℕ) → sheet-verdict (price-file file) log text ≡ Refused r
 
 -- THE FILE COMES FIRST
 pub file-first : (file : List ℕ) (r : Refusal) → price-file file .judged ≡ Refused r → First-of-all file r
-unfolding verdict-of read-verdict write-verdict check-verdict-of plan-verdict least-verdict start-verdict log-start-verdict sheet-verdict
+unfolding verdict-of read-verdict write-verdict check-verdict-of plan-verdict least-verdict quote-answer quoted start-verdict log-start-verdict sheet-verdict
 file-first file r e =
     record {
       log = λ log. rw e;
@@ -70,6 +73,7 @@ file-first file r e =
       check = λ log rows. rw e;
       plan = λ log marks rows. rw e;
       least = λ log costs. rw e;
+      quote = λ log. rw e;
       start = λ s. rw e;
       log-start = λ s. rw e;
       sheet = λ log text. rw e;

@@ -24,6 +24,9 @@ use Rattle.checker.specs.declared.Checked.{Checked}
 use Rattle.checker.specs.declared.Checked.the-variants as answer
 use Rattle.checker.specs.Answers.{check-answer}
 use Rattle.planner.specs.Answers.{letter}
+use Rattle.quote.specs.declared.Quoted.{Quoted}
+use Rattle.quote.specs.declared.Quoted.the-variants as quote
+use Rattle.quote.specs.Answers.{quote-answer}
 use Rattle.online.specs.declared.Cache.{Cache}
 use Rattle.online.specs.declared.ScanOutcome.{ScanOutcome}
 use Rattle.online.specs.declared.ScanOutcome.the-variants as scan
@@ -44,12 +47,14 @@ pub record Given : Type 0 where
 -- a tied week: how many legal markings have a cost
 -- a checked list of rows: number and place of a refusal and 0, or 0, 0 and the cost
 -- a log: the verdict's number and place
+-- a quoted week: the quote of its log
 -- a printed week: what the program writes for its log
 pub data Week : Type 0 where
   planned : Given → (least running : List ℕ) → (closing : ℕ) → (marks live rows : List ℕ) → Week
   checked : Given → (rows : List ℕ) → (number place cost : ℕ) → Week
   logged : Given → (number place : ℕ) → Week
   tied : Given → (cost count : ℕ) → Week
+  quoted : Given → (cost : ℕ) → Week
   printed : Given → (text : String) → Week
 
 -- a verdict as number and place, 0 and 0 where nothing is refused
@@ -61,6 +66,11 @@ as-numbers (Refused r) = r .number ∷ r .place ∷ []
 unfoldable pub answer-numbers : Checked → List ℕ
 answer-numbers (answer.Cost c) = 0 ∷ 0 ∷ c ∷ []
 answer-numbers (answer.Refused r) = r .number ∷ r .place ∷ 0 ∷ []
+
+-- a quote's answer as numbers
+unfoldable pub quote-numbers : Quoted → List ℕ
+quote-numbers (quote.Cost c) = 0 ∷ 0 ∷ c ∷ []
+quote-numbers (quote.Refused r) = r .number ∷ r .place ∷ 0 ∷ []
 
 -- the requests of a week
 unfoldable pub requests-given : Given → Requests
@@ -125,6 +135,7 @@ right (tied g c n) =
     let q = requests-given g in
     let k = length (g .seconds) in
     eqb (total (λ m. pick (eqb (cost (prices-of classes (g .header .«class»)) q m k) c) 1 0) (markings q k)) n
+right (quoted g c) = same (quote-numbers (quote-answer built-in (log-of g))) (0 ∷ 0 ∷ c ∷ [])
 right (printed g text) = same (output built-in (log-of g)) (ascii text)
 
 -- every week of a table is right

@@ -1,4 +1,4 @@
--- 01's worked weeks A to I, with 02's closing costs: one table, and one proof of all of it by computing the definitions.
+-- 01's worked weeks A to I, with 02's closing costs and quotes: one table, and one proof of all of it by computing the definitions.
 use mathlib.Core.Bool.{true}
 use mathlib.Core.List.{List, [], _∷_, _++_}
 use mathlib.Core.Path.{_≡_, refl}
@@ -22,8 +22,10 @@ use Rattle.model.specs.Marking.{keeps, some?, legal, gap, begin, after, spans, 
 use Rattle.model.specs.Plan.{put-mark, markings, first-least, least-of, plan, plan-cost, plan-rows}
 use Rattle.model.specs.Checking.{row-count, misfits, misplaced, row-conditions, backed, copy-condition, serve-condition, schedule-conditions, check-cost}
 use Rattle.model.specs.LogRequests.{requests-in, prices-in}
+use Rattle.model.specs.Quote.{least-own, quote-of}
 use Rattle.checker.specs.Answers.{check-conditions, check-verdict-of, checked as checked-by, check-answer}
 use Rattle.planner.specs.Answers.{letter, marks-of, planned-rows, least-costs}
+use Rattle.quote.specs.Answers.{quoted as quoted-by, quote-answer}
 use Rattle.online.specs.Servers.{across, set-of, some-server}
 use Rattle.online.specs.Rules.{window-of, copy-at, use-at, fresh, lasts, kept, uses, stands as stands-after, next-use, seconds, accept, running, remaining, closing}
 use Rattle.online.specs.Conditions.{any-of, server-broken, broken, scan-conditions, close-conditions}
@@ -37,7 +39,7 @@ use Rattle.report.specs.Live.{scans, state-after, live-mark, live-cost, opened,
 use Rattle.report.specs.Replies.{close-cost}
 use Rattle.report.specs.Sheet.{columns-of, sheet-of}
 use Rattle.report.specs.Output.{output-by, output}
-use Rattle.guarantees.specs.Week.{Given, Week, planned, checked, logged, tied, printed, as-numbers, answer-numbers, requests-given, live-letter, least-so-far, plan-letters, plan-numbers, costs-from, close-after, letters-from, start-of, log-of, right, all-right}
+use Rattle.guarantees.specs.Week.{Given, Week, planned, checked, logged, tied, quoted, printed, as-numbers, answer-numbers, quote-numbers, requests-given, live-letter, least-so-far, plan-letters, plan-numbers, costs-from, close-after, letters-from, start-of, log-of, right, all-right}
 
 -- K and S
 abbrev k : ℕ
@@ -53,6 +55,7 @@ given class′ count ts xs =
 
 -- A no requests; B 002's example times ten; C, and that two other markings cost the same; D; E; F class 6
 -- G a cycle with no copy behind it, and with one; H the last second; I equal seconds
+-- the quotes of A to F
 -- and what the program prints for A, in classes 0, 2 and 6, for C and for I
 unfoldable pub weeks : List Week
 weeks =
@@ -76,6 +79,12 @@ weeks =
     ∷ logged (given 0 2 (4000000 ∷ []) (0 ∷ [])) 0 0
     ∷ logged (given 0 2 (4000001 ∷ []) (0 ∷ [])) 12 1
     ∷ logged (given 0 2 (5 ∷ 5 ∷ []) (0 ∷ 0 ∷ [])) 13 2
+    ∷ quoted (given 0 2 [] []) 0
+    ∷ quoted (given 0 4 (5 ∷ 8 ∷ 11 ∷ 14 ∷ 26 ∷ 32 ∷ 40 ∷ []) (1 ∷ 2 ∷ 3 ∷ 0 ∷ 1 ∷ 1 ∷ 2 ∷ [])) 106
+    ∷ quoted (given 0 3 (1 ∷ 2 ∷ 11 ∷ 12 ∷ []) (1 ∷ 2 ∷ 1 ∷ 0 ∷ [])) 52
+    ∷ quoted (given 0 2 (1 ∷ 11 ∷ []) (1 ∷ 0 ∷ [])) 31
+    ∷ quoted (given 0 2 (1 ∷ 12 ∷ []) (1 ∷ 0 ∷ [])) 32
+    ∷ quoted (given 6 2 (1 ∷ 2 ∷ []) (1 ∷ 0 ∷ [])) 24
     ∷ printed (given 0 2 [] []) "scan second station plan live least bill\nrows 0\nclose 10\n"
     ∷ printed (given 2 2 [] []) "scan second station plan live least bill\nrows 0\nclose 24\n"
     ∷ printed (given 6 2 [] []) "scan second station plan live least bill\nrows 0\nclose 0\n"
@@ -93,7 +102,7 @@ own-weeks =
 
 -- every line of the table holds
 pub weeks-right : all-right (weeks ++ own-weeks) ≡ true
-unfolding weeks own-weeks all-right right same as-numbers answer-numbers requests-in prices-in check-conditions check-verdict-of checked-by check-answer requests-given letter live-letter least-so-far plan-letters plan-numbers costs-from close-after letters-from close-cost start-of log-of build first each has put lowest distance none-nearer nearest classes prices-of outside window version class-of server-count home-of request-count requests-offset id-offset total-length written-sum length-for id-of header-of seconds-of servers-of sum-from sum-of setup-conditions offered-conditions header-conditions before request-conditions log-conditions verdict-of head request-bytes requests-bytes body encode sum total requests latest previous length-of is-transfer cost-of reach arrive through reached rounds standing stands numbers flat row-of row-at rows-upto rows-of fits earlier follows keeps some? legal gap begin after spans any covered holds own cost begins-run run-end hold-rows all-holds transfers source rows-from rows put-mark markings first-least least-of plan plan-cost plan-rows row-count misfits misplaced row-conditions backed copy-condition serve-condition schedule-conditions check-cost across set-of some-server window-of copy-at use-at fresh lasts kept uses stands-after next-use seconds accept running remaining closing any-of server-broken broken scan-conditions close-conditions start-verdict log-start-verdict started-by started started-for-log scan-verdict scanned-by scanned mark-outcome close-verdict closed-by closed-answer marks-of planned-rows least-costs after-call run digits decimal ascii line-end line list-word refusal-text heading entry-line entry-lines figure-line sheet-text entry-of scans state-after live-mark live-cost opened live-marks running-costs closing-cost columns-of sheet-of output-by output
+unfolding weeks own-weeks all-right right same as-numbers answer-numbers quote-numbers quoted-by quote-answer least-own quote-of requests-in prices-in check-conditions check-verdict-of checked-by check-answer requests-given letter live-letter least-so-far plan-letters plan-numbers costs-from close-after letters-from close-cost start-of log-of build first each has put lowest distance none-nearer nearest classes prices-of outside window version class-of server-count home-of request-count requests-offset id-offset total-length written-sum length-for id-of header-of seconds-of servers-of sum-from sum-of setup-conditions offered-conditions header-conditions before request-conditions log-conditions verdict-of head request-bytes requests-bytes body encode sum total requests latest previous length-of is-transfer cost-of reach arrive through reached rounds standing stands numbers flat row-of row-at rows-upto rows-of fits earlier follows keeps some? legal gap begin after spans any covered holds own cost begins-run run-end hold-rows all-holds transfers source rows-from rows put-mark markings first-least least-of plan plan-cost plan-rows row-count misfits misplaced row-conditions backed copy-condition serve-condition schedule-conditions check-cost across set-of some-server window-of copy-at use-at fresh lasts kept uses stands-after next-use seconds accept running remaining closing any-of server-broken broken scan-conditions close-conditions start-verdict log-start-verdict started-by started started-for-log scan-verdict scanned-by scanned mark-outcome close-verdict closed-by closed-answer marks-of planned-rows least-costs after-call run digits decimal ascii line-end line list-word refusal-text heading entry-line entry-lines figure-line sheet-text entry-of scans state-after live-mark live-cost opened live-marks running-costs closing-cost columns-of sheet-of output-by output
 weeks-right = refl
 
 -- the two windows that 01's 'Prices' names: of class 4 and of class 6

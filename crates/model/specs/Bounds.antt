@@ -11,34 +11,31 @@ use Rattle.prices.specs.declared.Prices.{Prices}
 use Rattle.model.specs.Sums.{sum}
 use Rattle.model.specs.Requests.{Requests, previous, Rising}
 use Rattle.model.specs.RequestLaws.{previous-some, rises-le}
+use Rattle.model.specs.Quote.{least-own}
 use Rattle.model.specs.Marking.{S, legal}
 use Rattle.model.specs.Table.{open-gap, table, send-price, free, best}
 use Rattle.model.specs.TableLaws.{held, span, open-gap-shut, open-gap-open, send-fair, May, table-away, table-kept, Attained, gone, kept, table-cases, table-rises, table-slope-upto}
 use Rattle.model.specs.BestLaws.{forced-next, best-zero, best-S, best-K}
 
 module _ (p : Prices) (q : Requests) where
-  -- the least that request i costs by itself: a transfer, or its span where that costs less
-  unfoldable pub least-own : ℕ → ℕ
-  least-own i = elim (previous q i) [ none ↦ p .transfer | some j ↦ min (p .transfer) (span p q j i) ]
-
-  -- at most a transfer
-  own-transfer : (i : ℕ) → least-own i ≤ p .transfer
+  -- what a request costs by itself is at most a transfer
+  own-transfer : (i : ℕ) → least-own p q i ≤ p .transfer
   unfolding least-own
   own-transfer i = go (previous q i) refl
     where
-      go : (o : Option ℕ) → previous q i ≡ o → least-own i ≤ p .transfer
+      go : (o : Option ℕ) → previous q i ≡ o → least-own p q i ≤ p .transfer
       go none e = rw (e, least-own) (omega arith)
       go (some j) e = rw (e, least-own) (omega arith)
 
   -- at most its span
-  own-span : (i j : ℕ) → previous q i ≡ some j → least-own i ≤ span p q j i
+  own-span : (i j : ℕ) → previous q i ≡ some j → least-own p q i ≤ span p q j i
   unfolding least-own
   own-span i j e = rw (e, least-own) (omega arith)
 
   -- which of the two it is
   data Own (i : ℕ) : Type 0 where
-    by-span : (j : ℕ) → previous q i ≡ some j → least-own i ≡ span p q j i → Own i
-    by-transfer : least-own i ≡ p .transfer → Own i
+    by-span : (j : ℕ) → previous q i ≡ some j → least-own p q i ≡ span p q j i → Own i
+    by-transfer : least-own p q i ≡ p .transfer → Own i
 
   -- it is one of them
   own-cases : (i : ℕ) → Own i
@@ -54,14 +51,14 @@ module _ (p : Prices) (q : Requests) where
       go (some j) e = two j e (le-or-lt (span p q j i) (p .transfer))
 
   -- all together at most a transfer for each
-  pub owns-most : (n : ℕ) → sum n least-own ≤ p .transfer * n
+  pub owns-most : (n : ℕ) → sum n (least-own p q) ≤ p .transfer * n
   unfolding sum
   owns-most zero = omega arith
   owns-most (suc n) = omega (arith, owns-most n, own-transfer (suc n))
 
   -- what holds of a table of the first n requests, whatever is allowed
   pub record Bounded (n : ℕ) (t : ℕ → ℕ → ℕ) : Type 0 where
-    pub owns : (i c : ℕ) → sum i least-own ≤ t i c
+    pub owns : (i c : ℕ) → sum i (least-own p q) ≤ t i c
     pub holds : (i c : ℕ) → c ≤ i → i ≤ n → held p q c ≤ t i c
     pub rises : (i c d : ℕ) → c ≤ d → t i c ≤ t i d
     pub slope : (i c d : ℕ) → c ≤ d → d ≤ n → t i d + held p q c ≤ t i c + held p q d
@@ -100,12 +97,12 @@ module _ (p : Prices) (q : Requests) where
       t = table p q allow (send-price p q)
 
       -- each mark costs its request's least or more
-      table-owns : (i c : ℕ) → sum i least-own ≤ t i c
+      table-owns : (i c : ℕ) → sum i (least-own p q) ≤ t i c
       unfolding table sum send-price
       table-owns zero c = omega arith
       table-owns (suc i) c = go (table-cases p q allow (send-price p q) i c) (table-owns i)
         where
-          go : Attained p q allow (send-price p q) i c → ((c : ℕ) → sum i least-own ≤ t i c) → sum (suc i) least-own ≤ t (suc i) c
+          go : Attained p q allow (send-price p q) i c → ((c : ℕ) → sum i (least-own p q) ≤ t i c) → sum (suc i) (least-own p q) ≤ t (suc i) c
           go (gone may e) ih = omega (arith, ih (min c i), own-transfer (suc i))
           go (kept j z e) ih = omega (arith, ih (min c j), own-span (suc i) j z)
 
@@ -142,20 +139,20 @@ module _ (p : Prices) (q : Requests) where
     best-bounded = table-bounded (λ i. legal q i S)
 
     -- the least is at most both lower bounds together: where S is allowed everywhere, for every c
-    pub free-most : (i c : ℕ) → c ≤ i → i ≤ n → free p q i c ≤ sum i least-own + held p q c
+    pub free-most : (i c : ℕ) → c ≤ i → i ≤ n → free p q i c ≤ sum i (least-own p q) + held p q c
     unfolding free table sum send-price May
     free-most zero c h k = omega arith
     free-most (suc i) c h k = go (own-cases (suc i)) (free-most i)
       where
         go : Own (suc i)
-            → ((c : ℕ) → c ≤ i → i ≤ n → free p q i c ≤ sum i least-own + held p q c) → free p q (suc i) c ≤ sum (suc i) least-own + held p q c
+            → ((c : ℕ) → c ≤ i → i ≤ n → free p q i c ≤ sum i (least-own p q) + held p q c) → free p q (suc i) c ≤ sum (suc i) (least-own p q) + held p q c
         go (by-span j z e) ih =
             let b : j < suc i = previous-some q (suc i) j z .below in
             omega (arith, e, table-kept p q (λ i. true) (send-price p q) i c j z, ih (min c j) (omega arith) (omega arith), held-rises (min c j) c (omega arith) (omega arith))
         go (by-transfer e) ih = omega (arith, e, table-away p q (λ i. true) (send-price p q) i c (inl refl), ih (min c i) (omega arith) (omega arith), gap-held i c h k)
 
     -- and for the legal markings with no gap covered
-    pub best-most : (i : ℕ) → i ≤ n → best p q i i ≤ sum i least-own + held p q i
+    pub best-most : (i : ℕ) → i ≤ n → best p q i i ≤ sum i (least-own p q) + held p q i
     unfolding sum send-price
     best-most zero k = omega (arith, best-zero p q 0)
     best-most (suc i) k = go (own-cases (suc i)) (legal q (suc i) S) refl (best-most i (omega arith))
@@ -164,7 +161,7 @@ module _ (p : Prices) (q : Requests) where
         low j h = best-bounded .rises i (min (suc i) j) i (omega arith)
 
         go : Own (suc i)
-            → (b : Bool) → legal q (suc i) S ≡ b → best p q i i ≤ sum i least-own + held p q i → best p q (suc i) (suc i) ≤ sum (suc i) least-own + held p q (suc i)
+            → (b : Bool) → legal q (suc i) S ≡ b → best p q i i ≤ sum i (least-own p q) + held p q i → best p q (suc i) (suc i) ≤ sum (suc i) (least-own p q) + held p q (suc i)
         go (by-span j z e) b l ih =
             let a : j < suc i = previous-some q (suc i) j z .below in
             omega (arith, e, best-K p q i (suc i) j z, low j (omega arith), held-rises i (suc i) (omega arith) k)

@@ -8,6 +8,7 @@ pub mod RowForm
 pub mod Marking
 pub mod Plan
 pub mod Least
+pub mod Quote
 pub mod Checking
 pub mod LogRequests
 -- What is proved of them.
@@ -33,6 +34,8 @@ pub mod Once
 pub mod PartCost
 pub mod PlanLaws
 pub mod PlanLeast
+pub mod QuoteLaws
+pub mod RecentLaws
 pub mod RequestLaws
 pub mod RowLaws
 pub mod RowMembers

@@ -1,13 +1,17 @@
--- The requests of an accepted log rise and stay below its server count, its prices are in range, and a cut log has the first of them.
+-- The requests of a log where they stand in its bytes. Those of an accepted log rise, are in range and stay below its server count, its prices are in
+-- range, and a cut log has the first of them.
 use mathlib.Core.List.{List, _∷_}
 use mathlib.Core.Path.{_≡_, refl, ap}
-use Prim.Native.Nat.{ℕ, zero, suc, _≤_}
+use native.Mathlib.Omega.{arith}
+use Prim.Native.Nat.{ℕ, zero, suc, _+_, _*_, _≤_, _<_}
 use lib.ListN.{getD, take}
 use lib.Seq.{getD-take}
+use Rattle.base.specs.Bytes.{le16, le32}
 use Rattle.log.specs.Fields.{class-of, server-count, home-of, request-count, seconds-of, servers-of, header-of}
-use Rattle.log.specs.Conditions.{Accepted}
+use Rattle.log.specs.Conditions.{before, Accepted}
+use Rattle.log.specs.Ranges.{Sound}
 use Rattle.log.specs.Contents.{Contents, decode, first-requests, cut}
-use Rattle.log.specs.AcceptedLaws.{accepted-judged, accepted-class, accepted-sound, before-is}
+use Rattle.log.specs.AcceptedLaws.{accepted-judged, accepted-class, accepted-sound, second-at, server-at, before-is}
 use Rattle.log.specs.Cutting.{cut-decodes}
 use Rattle.prices.specs.Prices.{prices-of, In-range}
 use Rattle.prices.specs.PriceLaws.{Priced}
@@ -16,17 +20,49 @@ use Rattle.model.specs.Requests.{requests, Rising, Within}
 use Rattle.model.specs.LogRequests.{requests-in, prices-in}
 use Rattle.model.specs.Alike.{Alike}
 
--- the seconds of an accepted log rise
-pub log-rising : (t : Tariff) (s : List ℕ) → Accepted t s → Rising (requests-in s) (request-count s)
+-- home comes before the requests of any log
+pub home-is : (log : List ℕ) → requests-in log .server 0 ≡ home-of log
 unfolding requests-in requests
-log-rising t s a =
-    record { start = refl; rise = λ i h. rw (← (before-is (seconds-of s) i)) (accepted-sound t s a .in-order i h .later) }
+home-is log = refl
+
+-- the second and the server of request i + 1, where they stand in its bytes
+pub time-read : (log : List ℕ) (i : ℕ) → i < request-count log → requests-in log .time (suc i) ≡ le32 log (40 + 6 * i)
+unfolding requests-in requests
+time-read log i h = second-at log i h
+
+pub server-read : (log : List ℕ) (i : ℕ) → i < request-count log → requests-in log .server (suc i) ≡ le16 log (44 + 6 * i)
+unfolding requests-in requests
+server-read log i h = server-at log i h
+
+-- the second of the last one, as the log has it
+pub last-is : (log : List ℕ) → before (seconds-of log) (request-count log) ≡ requests-in log .time (request-count log)
+unfolding requests-in requests
+last-is log = before-is (seconds-of log) (request-count log)
+
+-- the seconds of a sound log rise
+pub sound-rising : (s : List ℕ) → Sound s → Rising (requests-in s) (request-count s)
+unfolding requests-in requests
+sound-rising s a =
+    record { start = refl; rise = λ i h. rw (← (before-is (seconds-of s) i)) (a .in-order i h .later) }
+
+-- none is above 4,000,000
+pub sound-seconds : (s : List ℕ) → Sound s → (i : ℕ) → i ≤ request-count s → requests-in s .time i ≤ 4000000
+unfolding requests-in requests
+sound-seconds s a zero h = omega arith
+sound-seconds s a (suc i) h = a .in-order i h .second-most
 
 -- its servers are below its server count
-pub log-within : (t : Tariff) (s : List ℕ) → Accepted t s → Within (server-count s) (requests-in s) (request-count s)
+pub sound-within : (s : List ℕ) → Sound s → Within (server-count s) (requests-in s) (request-count s)
 unfolding Within requests-in requests
-log-within t s a zero h = accepted-sound t s a .setup .home-below
-log-within t s a (suc i) h = accepted-sound t s a .in-order i h .server-below
+sound-within s a zero h = a .setup .home-below
+sound-within s a (suc i) h = a .in-order i h .server-below
+
+-- an accepted log is sound
+pub log-rising : (t : Tariff) (s : List ℕ) → Accepted t s → Rising (requests-in s) (request-count s)
+log-rising t s a = sound-rising s (accepted-sound t s a)
+
+pub log-within : (t : Tariff) (s : List ℕ) → Accepted t s → Within (server-count s) (requests-in s) (request-count s)
+log-within t s a = sound-within s (accepted-sound t s a)
 
 -- its prices are in range
 pub log-priced : (t : Tariff) → Priced t → (s : List ℕ) → Accepted t s → In-range (prices-in t s)

@@ -1,6 +1,5 @@
 // The running cost (01: running bill).
 ghost use mathlib.Core.Path.{_≡_};
-ghost use Prim.Native.Nat.{_*_};
 ghost use Rattle.prices.specs.Prices.{In-range};
 ghost use Rattle.online.specs.Rules.{running};
 ghost use Rattle.online.specs.Answers.{running-answer};
@@ -8,14 +7,7 @@ use crate::Cache;
 use crate::RunningCost;
 use crate::conditions::state_fault;
 use base::Verdict;
-use base::widths::u64_from_u32;
-
-// A price, paid a number of times.
-fn times(price: u32, n: u32) -> u64
-    ensures { λ r. ⌜ r ≡ price * n ⌝ }
-{
-    u64_from_u32(price) * u64_from_u32(n)
-}
+use prices::times;
 
 // All holding up to the last request, and all transfers.
 pub(crate) fn running_cost(cache: Cache) -> u64

@@ -21,7 +21,7 @@ use Rattle.base.specs.declared.Refusal.{Refusal}
 use Rattle.model.specs.Requests.{Requests, requests, latest, previous}
 use Rattle.model.specs.TableLists.{at}
 use Rattle.model.specs.LogRequests.{requests-in, prices-in}
-use Rattle.model.specs.LogRequestLaws.{log-rising, log-priced}
+use Rattle.model.specs.LogRequestLaws.{sound-seconds, log-rising, log-priced}
 use Rattle.planner.specs.Asked.{asks}
 use Rattle.planner.specs.Terms.{index}
 use Rattle.planner.specs.Fits.{Fits, Ready}
@@ -103,12 +103,6 @@ module _ (t : Tariff) (log : List ℕ) (ok : Accepted t log) where
       ∙ ap (λ (l : List ℕ). lent Passed l p) (links-lent (servers-with-home log) o (request-count log))
       ∙ ap (λ (w : Verdict). lent w (links (servers-with-home log) (request-count log)) p) (sym ok)
 
-  -- the seconds are at most 4,000,000
-  seconds-most : (i : ℕ) → i ≤ request-count log → requests-in log .time i ≤ 4000000
-  unfolding requests-in requests
-  seconds-most zero h = omega arith
-  seconds-most (suc i) h = sound .in-order i h .second-most
-
   -- all costs fit
   pub log-fits : Priced t → Fits (prices-in t log) (requests-in log) (request-count log)
   log-fits priced =
@@ -117,7 +111,7 @@ module _ (t : Tariff) (log : List ℕ) (ok : Accepted t log) where
         hold-most = p .hold-most;
         transfer-most = p .transfer-most;
         requests-most = sound .requests-most;
-        times-most = seconds-most;
+        times-most = sound-seconds log sound;
         rising = log-rising t log ok;
       }
 

@@ -13,6 +13,7 @@ use crate::PLACES;
 use base::widths::size_from_u16;
 use base::widths::u64_from_u32;
 use prices::Prices;
+use prices::times;
 
 // What a request may be, and what that adds to the cost: the request that it can be kept from (NONE where there is none),
 // whether a transfer may serve it, and what it costs to hold over its span and over the gap before it.
@@ -28,7 +29,7 @@ fn held(hold: u32, from: u32, to: u32) -> u64
     requires { ⌜ from ≤ to ⌝ }
     ensures { λ r. ⌜ r ≡ hold * (to - from) ⌝ }
 {
-    u64_from_u32(hold) * u64_from_u32(to - from)
+    times(hold, to - from)
 }
 
 // The terms of request i + 1.

@@ -2,10 +2,12 @@
 mod file;
 
 ghost use mathlib.Core.Path.{_≡_};
+ghost use Prim.Native.Nat.{_*_};
 ghost use lib.Dec.{ltb, eqb};
 ghost use Rattle.base.specs.Choice.{either};
 ghost use Rattle.prices.specs.Prices.{outside, window};
 ghost use Rattle.prices.specs.Offer.{built-in-offer};
+use base::widths::u64_from_u32;
 pub use file::BUILT_IN_LENGTH;
 pub use file::built_in;
 pub use file::class_count;
@@ -60,4 +62,11 @@ pub fn window(prices: Prices) -> u32
         return 0;
     }
     prices.transfer / prices.hold
+}
+
+// A price, paid a number of times.
+pub fn times(price: u32, n: u32) -> u64
+    ensures { λ r. ⌜ r ≡ price * n ⌝ }
+{
+    u64_from_u32(price) * u64_from_u32(n)
 }

@@ -4,6 +4,7 @@
 use super::log::round_trip;
 use super::online::served;
 use super::planner::answers;
+use super::quote::quote;
 use super::Met;
 use crate::calls::{Calls, Simple};
 use crate::log::{self, requests_of, Header, Log};
@@ -70,8 +71,8 @@ pub fn order<C: Calls>() {
     met.exactly(&[0, 3, 4, 5, 7, 11, 12, 13, 31, 43], 4);
 }
 
-/// Each cut of a log: read, and written again or refused with 43; planned and checked, its least costs those of the whole log; served one by one and
-/// closed.
+/// Each cut of a log: read, and written again or refused with 43; planned and checked, its least costs those of the whole log; quoted; served one by
+/// one and closed.
 fn each_cut<C: Calls>(table: &Table, log: &Log, writes: &mut Met, calls: &mut Met) {
     let (_, _, _, costs) = answers::<C>(table.file(), log);
     for count in 0..=log.requests.len() {
@@ -82,6 +83,7 @@ fn each_cut<C: Calls>(table: &Table, log: &Log, writes: &mut Met, calls: &mut Me
         let (cost, _, rows, least) = plan;
         assert_eq!(C::check(table.file(), &cut.bytes(), &rows), Ok(cost), "{cut:?}");
         assert_eq!((cost, &least[..]), (costs[count], &costs[..=count]), "{cut:?}");
+        assert!(quote::<C>(table.file(), &cut.bytes()).is_ok(), "{cut:?}");
         let _ = served::<C>(table, &cut, calls);
     }
 }
@@ -94,6 +96,7 @@ pub fn old_logs<C: Calls>(seed: u64, times: usize) {
     let sample = log::read(table.classes(), SAMPLE).unwrap();
     let marks: Vec<u8> = served::<C>(&table, &sample, &mut calls).into_iter().map(letter).collect();
     assert_eq!((&answers::<C>(None, &sample).1[..], &marks[..]), (&b"SSKSKSKSKKSK"[..], &b"SSKSKSKSKKSS"[..]));
+    assert_eq!(quote::<C>(None, SAMPLE), Ok(13_990_001));
     each_cut::<C>(&table, &sample, &mut writes, &mut calls);
     for _ in 0..times {
         each_cut::<C>(&table, &random_log_of(&mut random, &table, UNSOLD, 12), &mut writes, &mut calls);

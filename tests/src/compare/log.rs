@@ -72,20 +72,32 @@ fn small() -> Log {
     Log { header, requests }
 }
 
-/// Each byte of a small log at each value, with its sum made to fit and not.
-pub fn every_byte<C: Calls>() {
-    let mut random = Random::new(101);
-    let mut met = Met::default();
+fn with_its_sum(mut file: Vec<u8>) -> Vec<u8> {
+    let sum = log::sum(&file);
+    file[20..24].copy_from_slice(&sum.to_le_bytes());
+    file
+}
+
+/// Each byte of a small log at each value, with its sum as it was and made to fit.
+pub(super) fn changed() -> Vec<[Vec<u8>; 2]> {
     let good = small().bytes();
+    let mut files = vec![];
     for at in 0..good.len() {
         for byte in 0..=255 {
             let mut file = good.clone();
             file[at] = byte;
-            met.count(&read::<C>(&mut random, None, &file, 2, 3));
-            let sum = log::sum(&file);
-            file[20..24].copy_from_slice(&sum.to_le_bytes());
-            met.count(&read::<C>(&mut random, None, &file, 3, 2));
+            files.push([file.clone(), with_its_sum(file)]);
         }
+    }
+    files
+}
+
+pub fn every_byte<C: Calls>() {
+    let mut random = Random::new(101);
+    let mut met = Met::default();
+    for [file, summed] in changed() {
+        met.count(&read::<C>(&mut random, None, &file, 2, 3));
+        met.count(&read::<C>(&mut random, None, &summed, 3, 2));
     }
     met.exactly(&[0, 2, 3, 4, 5, 6, 7, 8, 10, 11, 12, 13], 2);
 }
@@ -106,30 +118,35 @@ pub fn wrong_sums<C: Calls>() {
             assert_eq!(C::plan(None, &file, &mut [0; 8], &mut [0; 128]), refuse(10, 0));
             assert_eq!(C::least(None, &file, &mut [0; 9]), refuse(10, 0));
             assert_eq!(C::check(None, &file, &[]), refuse(10, 0));
+            assert_eq!(C::quote(None, &file), refuse(10, 0));
         }
     }
     met.exactly(&[10], 1_000);
 }
 
 /// A small log cut and lengthened to each length, its fields as they were or made to fit.
-pub fn every_length<C: Calls>() {
-    let mut random = Random::new(102);
-    let mut met = Met::default();
+pub(super) fn lengths() -> Vec<Vec<u8>> {
     let good = small().bytes();
+    let mut files = vec![];
     for length in 0..100 {
         let mut file = good.clone();
         file.resize(length, 0);
-        met.count(&read::<C>(&mut random, None, &file, 20, 20));
+        files.push(file.clone());
         if length >= 24 {
-            let sum = log::sum(&file);
-            file[20..24].copy_from_slice(&sum.to_le_bytes());
-            met.count(&read::<C>(&mut random, None, &file, 20, 20));
+            files.push(with_its_sum(file.clone()));
             file[16..20].copy_from_slice(&(length as u32).to_le_bytes());
             file[6..8].copy_from_slice(&((length as u16).saturating_sub(40) / 6).to_le_bytes());
-            let sum = log::sum(&file);
-            file[20..24].copy_from_slice(&sum.to_le_bytes());
-            met.count(&read::<C>(&mut random, None, &file, 20, 20));
+            files.push(with_its_sum(file));
         }
+    }
+    files
+}
+
+pub fn every_length<C: Calls>() {
+    let mut random = Random::new(102);
+    let mut met = Met::default();
+    for file in lengths() {
+        met.count(&read::<C>(&mut random, None, &file, 20, 20));
     }
     met.exactly(&[0, 1, 8, 9, 12], 5);
 }
@@ -239,7 +256,23 @@ pub fn longest<C: Calls>() {
     writes.exactly(&[0, 7, 31, 43], 4);
 }
 
-/// Server counts, homes, servers and seconds about their bounds, read and written; class 7 is written with its table as a price file.
+/// Server counts, homes, servers and seconds about their bounds.
+pub(super) fn about_bounds(class: u8) -> Vec<Log> {
+    let mut logs = vec![];
+    for server_count in [0, 1, 63, 64, 65, 255] {
+        for home in [0, 62, 63, 64, 255] {
+            for server in [0, 62, 63, 64, 255, 256, 0xffff] {
+                for second in [0, 1, LAST_SECOND - 1, LAST_SECOND, LAST_SECOND + 1, u32::MAX] {
+                    let header = Header { class, server_count, home, id: [0xaa; 16] };
+                    logs.push(Log { header, requests: vec![Request { second: 1, server: 0 }, Request { second, server }] });
+                }
+            }
+        }
+    }
+    logs
+}
+
+/// All of them read and written; class 7 is written with its table as a price file.
 pub fn bounds<C: Calls>() {
     bounds_at::<C>(6, None);
     bounds_at::<C>(UNSOLD, Some(&encode(&BUILT_IN)));
@@ -248,18 +281,9 @@ pub fn bounds<C: Calls>() {
 fn bounds_at<C: Calls>(class: u8, prices: PriceFile) {
     let mut random = Random::new(104);
     let mut met = Met::default();
-    for server_count in [0, 1, 63, 64, 65, 255] {
-        for home in [0, 62, 63, 64, 255] {
-            for server in [0, 62, 63, 64, 255, 256, 0xffff] {
-                for second in [0, 1, LAST_SECOND - 1, LAST_SECOND, LAST_SECOND + 1, u32::MAX] {
-                    let header = Header { class, server_count, home, id: [0xaa; 16] };
-                    let requests = vec![Request { second: 1, server: 0 }, Request { second, server }];
-                    let log = Log { header, requests };
-                    met.count(&read::<C>(&mut random, None, &log.bytes(), 2, 2));
-                    met.count(&write::<C>(&mut random, prices, &header, &log.seconds(), &log.servers(), 52));
-                }
-            }
-        }
+    for log in about_bounds(class) {
+        met.count(&read::<C>(&mut random, None, &log.bytes(), 2, 2));
+        met.count(&write::<C>(&mut random, prices, &log.header, &log.seconds(), &log.servers(), 52));
     }
     met.exactly(&[0, 4, 5, 11, 12, 13], 10);
 }

@@ -10,6 +10,7 @@ pub mod log;
 pub mod online;
 pub mod planner;
 pub mod prices;
+pub mod quote;
 pub mod weeks;
 
 use crate::random::Random;
@@ -113,6 +114,23 @@ mod tests {
         planner::every_small_log_by_sets::<Fast>(3);
         planner::long_logs::<Fast>(21, 1);
         planner::bounds::<Fast>();
+    }
+
+    #[test]
+    fn fast_quote() {
+        quote::weeks::<Fast>();
+        quote::random_logs::<Fast>(33, 20_000);
+        quote::every_damage::<Fast>();
+        quote::every_cut::<Fast>(34, 2_000);
+        quote::every_class::<Fast>(35, 20);
+        quote::every_small_log::<Fast>(3);
+        quote::every_small_log_by_sets::<Fast>(3);
+        quote::long_logs::<Fast>(36, 1);
+        quote::equal::<Fast>();
+        quote::twice::<Fast>();
+        quote::windows::<Fast>();
+        quote::products::<Fast>();
+        quote::largest::<Fast>();
     }
 
     #[test]

@@ -1,6 +1,6 @@
 //! Price files, through every call that takes one.
 
-use super::{checker, log, noise16, noise32, noise64, noise8, online, planner, room, Met};
+use super::{checker, log, noise16, noise32, noise64, noise8, online, planner, quote, room, Met};
 use crate::calls::Calls;
 use crate::checker::flat;
 use crate::log::{Header, Log, Request};
@@ -15,10 +15,11 @@ const WRITE: usize = 1;
 const CHECK: usize = 2;
 const PLAN: usize = 3;
 const LEAST: usize = 4;
-const START: usize = 5;
+const QUOTE: usize = 5;
+const START: usize = 6;
 
 /// The calls that take a price file, each with what it came to.
-type Outcomes = [Result<(), Refusal>; 6];
+type Outcomes = [Result<(), Refusal>; 7];
 
 /// What a log is to the calls: its bytes, right or wrong, and what it holds, for those that take that.
 struct Input {
@@ -51,17 +52,18 @@ fn every_call<C: Calls>(random: &mut Random, prices: PriceFile, input: &Input) -
     if rows.is_empty() || random.once_in(8) {
         rows = (0..random.below(9)).map(|_| random.number()).collect();
     }
-    let mut outcomes = [Ok(()); 6];
+    let mut outcomes = [Ok(()); 7];
     outcomes[READ] = log::read_with_any_room::<C>(random, prices, file).map(drop);
     outcomes[WRITE] = log::write::<C>(random, prices, &log.header, &log.seconds(), &log.servers(), out).map(drop);
     outcomes[CHECK] = checker::check::<C>(prices, file, &rows).map(drop);
     outcomes[PLAN] = planner::plan::<C>(random, prices, file, marks, numbers).map(drop);
     outcomes[LEAST] = planner::least::<C>(random, prices, file, costs).map(drop);
+    outcomes[QUOTE] = quote::quote::<C>(prices, file).map(drop);
     outcomes[START] = online::start::<C>(prices, &log.header);
     outcomes
 }
 
-fn count(mets: &mut [Met; 6], outcomes: &Outcomes) {
+fn count(mets: &mut [Met; 7], outcomes: &Outcomes) {
     for (met, outcome) in mets.iter_mut().zip(outcomes) {
         met.count(outcome);
     }
@@ -128,18 +130,18 @@ fn inputs(classes: usize) -> Vec<Input> {
 /// Every call with each price file about a bound, on logs about its number of classes. What 02 refuses is refused by all of them, whatever the log.
 pub fn boundaries<C: Calls>() {
     let mut random = Random::new(300);
-    let mut mets: [Met; 6] = Default::default();
+    let mut mets: [Met; 7] = Default::default();
     for (file, refusal) in boundary_files() {
         let classes = file.len().saturating_sub(4) / 8;
         for input in inputs(classes) {
             let outcomes = every_call::<C>(&mut random, Some(&file), &input);
             if let Some((number, place)) = refusal {
-                assert_eq!(outcomes, [Err(Refusal { number, place }); 6], "{file:?}");
+                assert_eq!(outcomes, [Err(Refusal { number, place }); 7], "{file:?}");
             }
             count(&mut mets, &outcomes);
         }
     }
-    for call in [READ, CHECK, PLAN, LEAST] {
+    for call in [READ, CHECK, PLAN, LEAST, QUOTE] {
         mets[call].at_least(&[0, 1, 3, 4, 7, 10, 13, 37, 38], 50);
     }
     mets[WRITE].exactly(&[0, 3, 4, 7, 13, 31, 37, 38], 50);
@@ -159,6 +161,7 @@ pub fn every_byte<C: Calls>() {
             file[at] = byte;
             met.count(&online::start::<C>(Some(&file), &header));
             met.count(&planner::least::<C>(&mut random, Some(&file), &input.file, 4));
+            met.count(&quote::quote::<C>(Some(&file), &input.file));
         }
     }
     met.exactly(&[0, 37, 38], 100);
@@ -167,7 +170,7 @@ pub fn every_byte<C: Calls>() {
 /// Random price files, every second one damaged, and logs of any kind.
 pub fn random_files<C: Calls>(seed: u64, times: usize) {
     let mut random = Random::new(seed);
-    let mut mets: [Met; 6] = Default::default();
+    let mut mets: [Met; 7] = Default::default();
     for i in 0..times {
         let table = random_prices(&mut random);
         let damaged = if i % 2 == 0 { None } else { Some(damaged_prices(&mut random)) };
@@ -192,6 +195,7 @@ pub fn random_files<C: Calls>(seed: u64, times: usize) {
     mets[CHECK].at_least(&[0, 1, 2, 3, 4, 5, 6, 7, 8, 9, 10, 11, 12, 13, 14, 37, 38], often);
     mets[PLAN].exactly(&[0, 1, 2, 3, 4, 5, 6, 7, 8, 9, 10, 11, 12, 13, 31, 37, 38], often);
     mets[LEAST].exactly(&[0, 1, 2, 3, 4, 5, 6, 7, 8, 9, 10, 11, 12, 13, 31, 37, 38], often);
+    mets[QUOTE].exactly(&[0, 1, 2, 3, 4, 5, 6, 7, 8, 9, 10, 11, 12, 13, 37, 38], often);
     mets[START].exactly(&[0, 3, 37, 38], often);
 }
 
@@ -206,7 +210,7 @@ pub fn every_class<C: Calls>(seed: u64) {
         }
     }
     let table = Table::of_pairs(&pairs);
-    let mut mets: [Met; 6] = Default::default();
+    let mut mets: [Met; 7] = Default::default();
     for class in 0..=255 {
         let header = Header { class, server_count: 2, home: 0, id: [class; 16] };
         let (cache, _) = C::start(table.file(), &header);
@@ -219,6 +223,7 @@ pub fn every_class<C: Calls>(seed: u64) {
     }
     mets[START].exactly(&[0], 1_024);
     mets[LEAST].exactly(&[0, 31], 50);
+    mets[QUOTE].exactly(&[0], 1_024);
 }
 
 /// All that the calls give for the bytes of a log, and their outputs, which have the same noise before.
@@ -231,7 +236,8 @@ fn answers<C: Calls>(prices: PriceFile, file: &[u8], rows: &[u32], seed: u64, le
     let checked = C::check(prices, file, rows);
     let planned = C::plan(prices, file, &mut marks, &mut numbers);
     let least = C::least(prices, file, &mut costs);
-    ((read, seconds, servers), (checked, planned, marks, numbers, least, costs))
+    let quoted = C::quote(prices, file);
+    ((read, seconds, servers), (checked, planned, marks, numbers, least, costs), quoted)
 }
 
 /// What a new log and a new cache come to: the write and its output, which has some noise before, and the start.

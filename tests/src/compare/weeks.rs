@@ -1,4 +1,5 @@
-//! 01's worked weeks, A to I, with the rows of 02's request 03 and the closing costs of its request 02. Week B is 002's running example times ten.
+//! 01's worked weeks, A to I, with the rows of 02's request 03, the closing costs of its request 02 and the quotes of its request 07. Week B is 002's
+//! running example times ten.
 
 use crate::calls::Calls;
 use crate::log::{Header, Log, Request};
@@ -16,6 +17,7 @@ pub struct Week {
     /// the last of the running costs so far
     pub running: &'static [u64],
     pub closing: u64,
+    pub quote: u64,
     pub marks: Option<&'static str>,
     pub online_marks: Option<&'static str>,
     pub rows: Option<&'static [[u32; 4]]>,
@@ -28,6 +30,7 @@ const A: Week = Week {
     least: &[0],
     running: &[0],
     closing: 10,
+    quote: 0,
     marks: Some(""),
     online_marks: Some(""),
     rows: Some(&[]),
@@ -39,6 +42,7 @@ const B: Week = Week {
     least: &[15, 28, 41, 44, 65, 71, 89],
     running: &[15, 31, 50, 62, 102, 114, 136],
     closing: 156,
+    quote: 106,
     marks: None,
     online_marks: None,
     rows: Some(&[[0, 0, 0, 14], [0, 1, 5, 40], [1, 0, 1, 5], [1, 1, 2, 8], [1, 1, 3, 11], [1, 1, 2, 40]]),
@@ -51,6 +55,7 @@ const C: Week = Week {
     least: &[11, 22, 31, 42],
     running: &[11, 23, 50, 62],
     closing: 82,
+    quote: 52,
     marks: Some("SSKK"),
     online_marks: Some("SSKS"),
     rows: Some(&[[0, 0, 0, 12], [0, 1, 1, 11], [1, 0, 1, 1], [1, 1, 2, 2]]),
@@ -62,6 +67,7 @@ const D: Week = Week {
     least: &[21],
     running: &[31],
     closing: 41,
+    quote: 31,
     marks: None,
     online_marks: Some("SK"),
     rows: None,
@@ -73,6 +79,7 @@ const E: Week = Week {
     least: &[22],
     running: &[42],
     closing: 62,
+    quote: 32,
     marks: None,
     online_marks: Some("SS"),
     rows: None,
@@ -85,6 +92,7 @@ const F: Week = Week {
     least: &[19],
     running: &[24],
     closing: 24,
+    quote: 24,
     marks: None,
     online_marks: None,
     rows: None,

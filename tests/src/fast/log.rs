@@ -42,7 +42,7 @@ pub(super) fn accepted(table: Table, file: &[u8], mut each: impl FnMut(usize, Re
     Ok((header, count))
 }
 
-fn check_request(server_count: u8, second: u32, server: u16, earlier: u32, i: usize) -> Result<(), Refusal> {
+pub(super) fn check_request(server_count: u8, second: u32, server: u16, earlier: u32, i: usize) -> Result<(), Refusal> {
     if server >= server_count as u16 {
         return refuse(11, i + 1);
     }

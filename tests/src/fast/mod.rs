@@ -6,6 +6,7 @@ pub mod log;
 pub mod online;
 pub mod planner;
 mod prices;
+pub mod quote;
 
 use crate::calls::Calls;
 use crate::log::Header;
@@ -39,6 +40,10 @@ impl Calls for Fast {
 
     fn least(prices: PriceFile, file: &[u8], costs: &mut [u64]) -> Result<u32, Refusal> {
         planner::least(prices, file, costs)
+    }
+
+    fn quote(prices: PriceFile, file: &[u8]) -> Result<u64, Refusal> {
+        quote::quote(prices, file)
     }
 
     fn start(prices: PriceFile, header: &Header) -> (Cache, Result<(), Refusal>) {

@@ -138,6 +138,8 @@ extern "C" {
         costs: *mut u64,
         costs_length: usize,
     ) -> Answer;
+    fn caching_quote(log: *const u8, log_length: usize) -> Answer;
+    fn caching_quote_with(prices: *const u8, prices_length: usize, log: *const u8, log_length: usize) -> Answer;
     fn caching_start(header: FileHeader) -> CacheAnswer;
     fn caching_start_with(prices: *const u8, prices_length: usize, header: FileHeader) -> CacheAnswer;
     fn caching_scan(cache: Cache, id: Id, second: u32, server: u16) -> ScanAnswer;
@@ -227,6 +229,15 @@ impl Calls for Library {
             Some(file) => unsafe { caching_least_with(file.as_ptr(), file.len(), log, length, costs.as_mut_ptr(), costs.len()) },
         };
         answer.value().map(|count| count.try_into().unwrap())
+    }
+
+    fn quote(prices: PriceFile, file: &[u8]) -> Result<u64, Refusal> {
+        let (log, length) = (file.as_ptr(), file.len());
+        let answer = match prices {
+            None => unsafe { caching_quote(log, length) },
+            Some(file) => unsafe { caching_quote_with(file.as_ptr(), file.len(), log, length) },
+        };
+        answer.value()
     }
 
     fn start(prices: PriceFile, header: &Header) -> (Cache, Result<(), Refusal>) {

@@ -10,14 +10,16 @@ use Rattle.base.specs.Lists.{build, build-length, cleared}
 use Rattle.base.specs.LentLaws.{lent-front}
 use Rattle.model.specs.TableLists.{at}
 use Rattle.planner.specs.Loading.{links}
-use Rattle.planner.specs.LinkLaws.{recents, recents-zero, recents-next, links-front, links-next}
+use Rattle.model.specs.RecentLaws.{recents, recents-zero, recents-next}
+use Rattle.planner.specs.Terms.{index}
+use Rattle.planner.specs.LinkLaws.{links-front, links-next}
 use Rattle.planner.proofs.requests.link.Statement.{statement}
 use Rattle.planner.proofs.requests.link.Tie as tie
 
 abbrev Inv-loop : tie.InvT-loop
 Inv-loop servers n previous₀ recent₀ i₀ previous recent i =
     (i ≤ suc n)
-    × (recent ≡ recents (at servers) i)
+    × (recent ≡ recents (at servers) index i)
     × (length previous ≡ length previous₀)
     × (previous ≡ links-front (at servers) i previous₀)
 
@@ -25,8 +27,8 @@ abbrev μ-loop : tie.MeasureT-loop
 μ-loop servers n previous₀ recent₀ i₀ previous recent i = suc n - i
 
 loop-holds : tie.Need-loop-holds Inv-loop μ-loop
-unfolding links-front build
-loop-holds c = (search needs, recents-zero (at (c .before .args .servers .now)), refl, refl)
+unfolding links-front build index
+loop-holds c = (search needs, recents-zero (at (c .before .args .servers .now)) index, refl, refl)
 
 link-one-requires : tie.Need-link-one-requires Inv-loop μ-loop
 link-one-requires c κs =
@@ -41,6 +43,7 @@ loop-less : tie.Need-loop-less Inv-loop μ-loop
 loop-less c = search needs
 
 loop-again : tie.Need-loop-again Inv-loop μ-loop
+unfolding index
 loop-again c =
     let s = c .before .before .before .before .before .before .before .before in
     let a = s .args in
@@ -48,7 +51,7 @@ loop-again c =
     let x = c .before .before .link-one in
     let t = at (a .servers .now) in (
       search needs,
-      rw (x .ensures .0, l .inv .1, add-one (l .i)) (recents-next t (l .i)),
+      rw (x .ensures .0, l .inv .1, add-one (l .i)) (recents-next t index (l .i)),
       ap length (x .ensures .1) ∙ length-set (l .previous) _ _ ∙ l .inv .2,
       rw (x .ensures .1, l .inv .1, l .inv .3, add-one (l .i)) (links-next t (l .i) (a .previous .now) (omega arith) (s .pre .1 (l .i))),
     )

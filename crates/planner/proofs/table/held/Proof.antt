@@ -1,24 +1,16 @@
 -- `planner::table::held` meets its contract. Assumes nothing.
 use borrow.Author.Needs.{needs}
-use native.Mathlib.Nat.{mul-le-mul}
-use native.Mathlib.Omega.{arith}
 use Rattle.planner.proofs.table.held.Statement.{statement}
 use Rattle.planner.proofs.table.held.Tie as tie
 
-u64-from-u32-requires : tie.Need-u64-from-u32-requires
-u64-from-u32-requires c κs = search needs
+sub-times : tie.Need-sub-times
+sub-times c = search needs
 
-sub-u64-from-u32 : tie.Need-sub-u64-from-u32
-sub-u64-from-u32 c = search needs
-
-u64-from-u32-requires-2 : tie.Need-u64-from-u32-requires-2
-u64-from-u32-requires-2 c κs = search needs
-
-mul-result : tie.Need-mul-result
-mul-result c = omega (arith, mul-le-mul {n₁ = c .before .u64-from-u32 .result} {m₁ = c .u64-from-u322 .result} {n₂ = 4294967295} {m₂ = 4294967295} (omega arith) (omega arith))
+times-requires : tie.Need-times-requires
+times-requires c κs = search needs
 
 returns : tie.Need-returns
-returns c = rw (c .u64-from-u322 .ensures .0, c .before .u64-from-u32 .ensures .0)
+returns c = c .times .ensures
 
 pub held-spec : {M : Type 1} → statement M
-held-spec = tie.close (tie.spec u64-from-u32-requires sub-u64-from-u32 u64-from-u32-requires-2 mul-result returns)
+held-spec = tie.close (tie.spec sub-times times-requires returns)

@@ -1,11 +1,11 @@
--- `online::running::times` meets its contract. Assumes nothing.
+-- `prices::times` meets its contract. Assumes nothing.
 use borrow.Author.Needs.{needs}
 use mathlib.Core.Path.{ap₂}
 use Prim.Native.Nat.{ℕ, _*_, _≤_}
 use native.Mathlib.Nat.{mul-le-mul}
 use native.Mathlib.Omega.{arith}
-use Rattle.online.proofs.running.times.Statement.{statement}
-use Rattle.online.proofs.running.times.Tie as tie
+use Rattle.prices.proofs.times.Statement.{statement}
+use Rattle.prices.proofs.times.Tie as tie
 
 u64-from-u32-requires : tie.Need-u64-from-u32-requires
 u64-from-u32-requires c κs = search needs

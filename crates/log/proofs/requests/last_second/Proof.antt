@@ -1,10 +1,10 @@
--- `checker::conditions::last_second` meets its contract. Assumes nothing.
+-- `log::requests::last_second` meets its contract. Assumes nothing.
 use borrow.Author.Needs.{needs}
 use mathlib.Core.Path.{sym}
 use Rattle.log.specs.Fields.{request-count}
-use Rattle.checker.specs.LogLaws.{last-none, last-read}
-use Rattle.checker.proofs.conditions.last_second.Statement.{statement}
-use Rattle.checker.proofs.conditions.last_second.Tie as tie
+use Rattle.log.specs.ConditionLaws.{last-none, last-read}
+use Rattle.log.proofs.requests.last_second.Statement.{statement}
+use Rattle.log.proofs.requests.last_second.Tie as tie
 
 at16-requires : tie.Need-at16-requires
 at16-requires c κs = search needs
