@@ -53,21 +53,12 @@ byte-part : (s : List ℕ) (i n j : ℕ) → j < n → byte (take n (drop i s)) 
 byte-part s i n j h = getD-take n (drop i s) j 0 h ∙ getD-drop i s j 0
 
 -- and so is a number of two bytes
-pub le16-part : (s : List ℕ) (i n : ℕ) → 2 ≤ n → le16 (take n (drop i s)) 0 ≡ le16 s i
-le16-part s i n h = rw (byte-part s i n 0 (omega arith), byte-part s i n 1 (omega arith), add-zero i)
+pub le16-part : (s : List ℕ) (i n j : ℕ) → j + 2 ≤ n → le16 (take n (drop i s)) j ≡ le16 s (i + j)
+le16-part s i n j h = rw (byte-part s i n j (omega arith), byte-part s i n (j + 1) (omega arith), ← add-assoc i j 1)
 
 -- and one of four
-pub le32-part : (s : List ℕ) (i n : ℕ) → 4 ≤ n → le32 (take n (drop i s)) 0 ≡ le32 s i
-le32-part s i n h =
-    let e : i + 2 + 1 ≡ i + 3 = omega arith in
-    rw (
-      byte-part s i n 0 (omega arith),
-      byte-part s i n 1 (omega arith),
-      byte-part s i n 2 (omega arith),
-      byte-part s i n 3 (omega arith),
-      add-zero i,
-      e,
-    )
+pub le32-part : (s : List ℕ) (i n j : ℕ) → j + 4 ≤ n → le32 (take n (drop i s)) j ≡ le32 s (i + j)
+le32-part s i n j h = rw (le16-part s i n j (omega arith), le16-part s i n (j + 2) (omega arith), ← add-assoc i j 2)
 
 -- the number in the n bytes from i on
 unfoldable number : ℕ → List ℕ → ℕ → ℕ

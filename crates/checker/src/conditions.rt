@@ -1,12 +1,13 @@
 // The conditions 14 to 18 on the numbers of a schedule, in 01's order.
 ghost use mathlib.Core.Path.{_≡_};
 ghost use mathlib.Core.Bool.{not};
-ghost use Prim.Native.Nat.{_<_};
+ghost use Prim.Native.Nat.{_+_, _*_, _≤_, _<_};
 ghost use lib.Dec.{ltb, eqb};
+ghost use lib.ListN.{length};
 ghost use Rattle.base.specs.Choice.{either};
 ghost use Rattle.base.specs.Refusals.{first, each};
 ghost use Rattle.log.specs.Ranges.{Sound};
-ghost use Rattle.log.specs.Fields.{request-count};
+ghost use Rattle.log.specs.Fields.{request-count, length-for};
 ghost use Rattle.model.specs.RowForm.{fits};
 ghost use Rattle.model.specs.Checking.{row-count, misplaced};
 ghost use Rattle.checker.specs.Reading.{as-row};
@@ -30,8 +31,8 @@ use base::widths::size_from_u16;
 use base::widths::u32_from_u8;
 use base::widths::u32_from_u16;
 use log::last_second;
-use log::second_of;
-use log::server_of;
+use log::request_in;
+use log::request_place;
 
 // 15: a kind above 1, no request, or a row that does not fit.
 fn misfits(count: u32, n: u16, last: u32, r: Quad) -> bool
@@ -95,24 +96,24 @@ fn stands(ns: &[u32], hints: &mut [usize; 65], count: u32, home: u32, t: u32, x:
 
 // Does one stand at request i + 1?
 fn served(log: &[u8], ns: &[u32], hints: &mut [usize; 65], i: u16) -> bool
-    requires { ⌜ In-order (now ns) ⌝ }
+    requires { ⌜ In-order (now ns) × (46 + 6 * i ≤ length (now log)) ⌝ }
     ensures { λ r. ⌜ r ≡ served (now (log .entry)) (now (ns .entry)) i ⌝ }
 {
-    let second = second_of(log, i);
-    let server = server_of(log, i);
+    let k = request_place(i);
+    let request = request_in(&log[k..k + 6]);
     stands(
         ns,
         hints,
         u32_from_u8(at(log, 3)),
         u32_from_u8(at(log, 4)),
-        second,
-        u32_from_u16(server),
+        request.second,
+        u32_from_u16(request.server),
     )
 }
 
 // 18 for each request.
 fn requests_fault(log: &[u8], ns: &[u32]) -> Verdict
-    requires { ⌜ In-order (now ns) ⌝ }
+    requires { ⌜ In-order (now ns) × (length (now log) ≡ length-for (request-count (now log))) ⌝ }
     ensures { λ r. ⌜ r ≡ first (each (serve-test (now (log .entry)) (now (ns .entry))) (request-count (now (log .entry)))) ⌝ }
 {
     let mut hints = [0usize; 65];

@@ -7,6 +7,7 @@ pub mod Contents
 pub mod Ranges
 pub mod Answers
 -- What is proved of it.
+pub mod RequestLaws
 pub mod ConditionLaws
 pub mod ContentsLaws
 pub mod AcceptedLaws

@@ -17,8 +17,7 @@ ghost use Rattle.log.specs.Contents.{contents, contents-conditions};
 use crate::Header;
 use crate::MOST_REQUESTS;
 use crate::Setup;
-use crate::requests::second_at;
-use crate::requests::server_at;
+use crate::requests::request_at;
 use base::Refusal;
 use base::Verdict;
 use base::bytes::at;
@@ -155,9 +154,15 @@ fn requests_fault(log: &[u8]) -> Verdict
     let mut earlier: u32 = 0;
     let mut i: u16 = 0;
     while i < n {
-        let k = size_from_u16(i);
-        let second = second_at(log, k);
-        let v = request_fault(count, server_at(log, k), second, earlier, place(k));
+        let request = request_at(log, i);
+        let second = request.second;
+        let v = request_fault(
+            count,
+            request.server,
+            second,
+            earlier,
+            place(size_from_u16(i)),
+        );
         if let Verdict::Refused(r) = v {
             return Verdict::Refused(r);
         }

@@ -12,8 +12,8 @@ pub use reader::read;
 pub use reader::read_by;
 pub use reader::read_with;
 pub use requests::last_second;
-pub use requests::second_of;
-pub use requests::server_of;
+pub use requests::request_in;
+pub use requests::request_place;
 pub use writer::write;
 pub use writer::write_by;
 pub use writer::write_with;
@@ -34,7 +34,13 @@ pub struct Header {
     pub id: [u8; 16],
 }
 
-// The number of requests (01: scans) read, or why the log is refused.
+// A request of a log (01: scan).
+pub struct Request {
+    pub second: u32,
+    pub server: u16,
+}
+
+// The number of requests read, or why the log is refused.
 pub enum ReadOutcome {
     Requests(u16),
     Refused(Refusal),

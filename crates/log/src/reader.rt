@@ -15,8 +15,7 @@ use crate::Decoded;
 use crate::Header;
 use crate::ReadOutcome;
 use crate::conditions::verdict;
-use crate::requests::second_at;
-use crate::requests::server_at;
+use crate::requests::request_at;
 use base::Verdict;
 use base::bytes::at16;
 use base::bytes::clear16;
@@ -87,8 +86,9 @@ fn put_requests(log: &[u8], n: u16, seconds: &mut [u32], servers: &mut [u16])
     let mut i: u16 = 0;
     while i < n {
         let k = size_from_u16(i);
-        seconds[k] = second_at(log, k);
-        servers[k] = server_at(log, k);
+        let request = request_at(log, i);
+        seconds[k] = request.second;
+        servers[k] = request.server;
         i += 1;
     }
 }

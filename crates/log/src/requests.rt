@@ -5,40 +5,34 @@ ghost use lib.ListN.{length};
 ghost use Rattle.base.specs.Bytes.{le16, le32};
 ghost use Rattle.log.specs.Fields.{request-count, seconds-of};
 ghost use Rattle.log.specs.Conditions.{before};
+use crate::Request;
 use base::bytes::at16;
 use base::bytes::at32;
 use base::widths::size_from_u16;
 
-// The second of request k, from 0, of a log that has it.
-pub(crate) fn second_at(log: &[u8], k: usize) -> u32
+// Where request k begins, from 0.
+pub fn request_place(k: u16) -> usize
+    ensures { λ r. ⌜ r ≡ 40 + 6 * k ⌝ }
+{
+    40 + 6 * size_from_u16(k)
+}
+
+// A request by its six bytes; 0 stands for one that is not there.
+pub fn request_in(bytes: &[u8]) -> Request
+    ensures { λ r. ⌜ (r .second ≡ le32 (now (bytes .entry)) 0) × (r .server ≡ le16 (now (bytes .entry)) 4) ⌝ }
+{
+    let second = at32(bytes, 0);
+    let server = at16(bytes, 4);
+    Request { second, server }
+}
+
+// Request k of a log that has it.
+pub(crate) fn request_at(log: &[u8], k: u16) -> Request
     requires { ⌜ 46 + 6 * k ≤ length (now log) ⌝ }
-    ensures { λ r. ⌜ r ≡ le32 (now (log .entry)) (40 + 6 * k) ⌝ }
+    ensures { λ r. ⌜ (r .second ≡ le32 (now (log .entry)) (40 + 6 * k)) × (r .server ≡ le16 (now (log .entry)) (44 + 6 * k)) ⌝ }
 {
-    let i = 40 + 6 * k;
-    at32(&log[i..i + 4], 0)
-}
-
-// Its server.
-pub(crate) fn server_at(log: &[u8], k: usize) -> u16
-    requires { ⌜ 46 + 6 * k ≤ length (now log) ⌝ }
-    ensures { λ r. ⌜ r ≡ le16 (now (log .entry)) (44 + 6 * k) ⌝ }
-{
-    let i = 44 + 6 * k;
-    at16(&log[i..i + 2], 0)
-}
-
-// The second of request k, from 0, of any bytes: 0 for each that is not there.
-pub fn second_of(log: &[u8], k: u16) -> u32
-    ensures { λ r. ⌜ r ≡ le32 (now (log .entry)) (40 + 6 * k) ⌝ }
-{
-    at32(log, 40 + 6 * size_from_u16(k))
-}
-
-// Its server.
-pub fn server_of(log: &[u8], k: u16) -> u16
-    ensures { λ r. ⌜ r ≡ le16 (now (log .entry)) (44 + 6 * k) ⌝ }
-{
-    at16(log, 44 + 6 * size_from_u16(k))
+    let i = request_place(k);
+    request_in(&log[i..i + 6])
 }
 
 // The second of the last request, 0 where there is none.

@@ -5,12 +5,12 @@ use mathlib.Core.Path.{_≡_, refl, sym, ap, _∙_}
 use native.Mathlib.Omega.{arith}
 use Prim.Native.Nat.{ℕ, suc, _+_, _-_, _*_, _≤_, _<_, min}
 use lib.Dec.{ltb}
-use lib.ListN.{set, replicate}
+use lib.ListN.{length, set, replicate}
 use borrow.Author.Tests.{lt-ltb, le-ltb}
 use Rattle.base.specs.Choice.{pick}
 use Rattle.base.specs.Bytes.{le16, le32}
 use Rattle.prices.specs.declared.Prices.{Prices}
-use Rattle.log.specs.Fields.{home-of, request-count}
+use Rattle.log.specs.Fields.{home-of, request-count, length-for}
 use Rattle.log.specs.Ranges.{Sound}
 use Rattle.model.specs.Sums.{sum}
 use Rattle.model.specs.Requests.{Requests, requests, previous, Rising, Within}
@@ -55,7 +55,12 @@ lasts-zero log =
     ∙ recents-next (q .server) (last-second q) 0
 
 module _ (log : List ℕ) (sound : Sound log) (k : ℕ) (h : k < request-count log) where
-  -- request k + 1 is at one of them
+  -- request k + 1 is there
+  pub request-there : 46 + 6 * k ≤ length log
+  unfolding length-for
+  request-there = omega (arith, sound .length-is)
+
+  -- and at one of them
   pub server-small : le16 log (44 + 6 * k) < 64
   unfolding Within
   server-small = omega (arith, server-read log k h, sound-within log sound (suc k) h, sound .setup .servers-most)

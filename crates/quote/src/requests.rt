@@ -1,8 +1,7 @@
 // What each request of a log adds to the quote, by the last second at each server.
 ghost use mathlib.Core.Path.{_≡_};
-ghost use Prim.Native.Nat.{_+_, _*_, _<_};
+ghost use Prim.Native.Nat.{_<_};
 ghost use lib.ListN.{set};
-ghost use Rattle.base.specs.Bytes.{le16, le32};
 ghost use Rattle.prices.specs.Prices.{In-range};
 ghost use Rattle.log.specs.Fields.{request-count};
 ghost use Rattle.log.specs.Ranges.{Sound};
@@ -15,8 +14,9 @@ use base::bytes::at16;
 use base::widths::size_from_u16;
 use base::widths::u16_from_u8;
 use base::widths::u64_from_u32;
-use log::second_of;
-use log::server_of;
+use log::Request;
+use log::request_in;
+use log::request_place;
 use prices::Prices;
 use prices::times;
 
@@ -38,17 +38,16 @@ fn own_since(p: Prices, last: u32, second: u32) -> u64
     span
 }
 
-// What request k adds, from 0; its second is the last at its server from then on.
-fn add_request(p: Prices, log: &[u8], k: u16, lasts: &mut [u32; 64]) -> u64
-    requires { ⌜ le16 (now log) (44 + 6 * k) < 64 ⌝ }
-    ensures { λ r. ⌜ r ≡ own-since p (at (now (lasts .entry)) (le16 (now (log .entry)) (44 + 6 * k))) (le32 (now (log .entry)) (40 + 6 * k)) ⌝ }
-    ensures { λ _. ⌜ now (lasts .exit) ≡ set (now (lasts .entry)) (le16 (now (log .entry)) (44 + 6 * k)) (le32 (now (log .entry)) (40 + 6 * k)) ⌝ }
+// What a request adds; its second is the last at its server from then on.
+fn add_request(p: Prices, request: Request, lasts: &mut [u32; 64]) -> u64
+    requires { ⌜ request .server < 64 ⌝ }
+    ensures { λ r. ⌜ r ≡ own-since p (at (now (lasts .entry)) (request .server)) (request .second) ⌝ }
+    ensures { λ _. ⌜ now (lasts .exit) ≡ set (now (lasts .entry)) (request .server) (request .second) ⌝ }
 {
-    let second = second_of(log, k);
-    let y = size_from_u16(server_of(log, k));
+    let y = size_from_u16(request.server);
     let last = lasts[y];
-    lasts[y] = second;
-    own_since(p, last, second)
+    lasts[y] = request.second;
+    own_since(p, last, request.second)
 }
 
 // What all requests of a log add.
@@ -62,7 +61,8 @@ pub(crate) fn sum_part(p: Prices, log: &[u8]) -> u64
     let mut sum: u64 = 0;
     let mut k: u16 = 0;
     while k < n {
-        sum += add_request(p, log, k, &mut lasts);
+        let i = request_place(k);
+        sum += add_request(p, request_in(&log[i..i + 6]), &mut lasts);
         k += 1;
     }
     sum

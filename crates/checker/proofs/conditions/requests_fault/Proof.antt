@@ -9,7 +9,7 @@ use Rattle.base.specs.Refusals.{first, each}
 use Rattle.base.specs.RefusalLaws.{each-refused}
 use Rattle.base.specs.declared.Verdict.the-variants.{Passed}
 use Rattle.log.specs.ConditionLaws.{each-more}
-use Rattle.log.specs.Fields.{request-count}
+use Rattle.log.specs.Fields.{request-count, length-for}
 use Rattle.checker.specs.Quick.{serve-test}
 use Rattle.checker.specs.QuickSteps.{serve-found}
 use Rattle.checker.proofs.conditions.requests_fault.Statement.{statement}
@@ -29,6 +29,7 @@ unfolding first each
 loop-holds c = (search needs, refl)
 
 served-requires : tie.Need-served-requires Inv-loop μ-loop
+unfolding request-count length-for
 served-requires c κs = search needs
 
 size-from-u16-requires : tie.Need-size-from-u16-requires Inv-loop μ-loop

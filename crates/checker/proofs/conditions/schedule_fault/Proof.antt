@@ -85,9 +85,11 @@ requests-fault-requires : tie.Need-requests-fault-requires
 unfolding server-count request-count
 requests-fault-requires c κs =
     let s = c .before .before .before .before .before .before .before .before .before .before .before .before .before .before .before in
-    let count = c .before .before .before .before .before .before .before .before .before .before .u32-from-u8 .ensures .0 ∙ c .before .before .before .before .before .before .before .before .before .before .before .at .ensures in
-    in-order (s .args .log .now) (s .args .ns .now) (s .pre)
-    (row-part-read (s .args .log .now) (s .args .ns .now) _ _ _ _ count (c .before .before .before .before .before .before .before .before .before .at16 .ensures) (c .before .before .before .before .before .before .before .before .last-second .ensures) (c .before .before .before .before .before .before .before .rows-fault .ensures) ∙ c .before .before .before .before .before .enum-told .given .1)
+    let count = c .before .before .before .before .before .before .before .before .before .before .u32-from-u8 .ensures .0 ∙ c .before .before .before .before .before .before .before .before .before .before .before .at .ensures in (
+      in-order (s .args .log .now) (s .args .ns .now) (s .pre)
+          (row-part-read (s .args .log .now) (s .args .ns .now) _ _ _ _ count (c .before .before .before .before .before .before .before .before .before .at16 .ensures) (c .before .before .before .before .before .before .before .before .last-second .ensures) (c .before .before .before .before .before .before .before .rows-fault .ensures) ∙ c .before .before .before .before .before .enum-told .given .1),
+      s .pre .length-is,
+    )
 
 returns-4 : tie.Need-returns-4
 unfolding first server-count request-count home-of

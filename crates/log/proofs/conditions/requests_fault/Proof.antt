@@ -31,16 +31,12 @@ loop-holds : tie.Need-loop-holds Inv-loop μ-loop
 unfolding first each before
 loop-holds c = (search needs, refl, refl)
 
+request-at-requires : tie.Need-request-at-requires Inv-loop μ-loop
+unfolding request-count length-for
+request-at-requires c κs = search needs
+
 size-from-u16-requires : tie.Need-size-from-u16-requires Inv-loop μ-loop
 size-from-u16-requires c κs = search needs
-
-second-at-requires : tie.Need-second-at-requires Inv-loop μ-loop
-unfolding request-count length-for
-second-at-requires c κs = search needs
-
-server-at-requires : tie.Need-server-at-requires Inv-loop μ-loop
-unfolding request-count length-for
-server-at-requires c κs = search needs
 
 place-requires : tie.Need-place-requires Inv-loop μ-loop
 place-requires c κs = search needs
@@ -55,14 +51,13 @@ returns : tie.Need-returns Inv-loop μ-loop
 unfolding request-count server-count
 returns c =
     let p = c .before .before .before in
-    let l = p .before .before .before .before .before .before .loop in
-    let log = p .before .before .before .before .before .before .before .before .before .before .args .log .now in
-    let k : p .before .before .before .before .size-from-u16 .result ≡ l .i = p .before .before .before .before .size-from-u16 .ensures .0 in
-    let second : p .before .before .before .second-at .result ≡ le32 log (40 + 6 * l .i) = rw k at (p .before .before .before .second-at .ensures) in
-    let server : p .before .before .server-at .result ≡ le16 log (44 + 6 * l .i) = rw k at (p .before .before .server-at .ensures) in
-    let place : p .before .place .result ≡ suc (l .i) = rw k at (p .before .place .ensures) in
+    let l = p .before .before .before .before .before .loop in
+    let log = p .before .before .before .before .before .before .before .before .before .args .log .now in
+    let second = p .before .before .before .request-at .ensures .0 in
+    let server = p .before .before .before .request-at .ensures .1 in
+    let place : p .before .place .result ≡ suc (l .i) = rw (p .before .before .size-from-u16 .ensures .0) at (p .before .place .ensures) in
     sym (each-refused (log-requests log) (l .i) (request-count log) _ (search needs) (l .inv .1)
-    (request-found log (l .i) _ _ _ _ _ _ (search needs) (p .before .before .before .before .before .before .before .before .at .ensures) server second (l .inv .2) place (p .request-fault .ensures) ∙ c .before .v .given .1))
+    (request-found log (l .i) _ _ _ _ _ _ (search needs) (p .before .before .before .before .before .before .before .at .ensures) server second (l .inv .2) place (p .request-fault .ensures) ∙ c .before .v .given .1))
 
 enum-told : tie.Need-enum-told Inv-loop μ-loop
 enum-told c = search needs
@@ -77,16 +72,15 @@ loop-again : tie.Need-loop-again Inv-loop μ-loop
 unfolding request-count server-count
 loop-again c =
     let p = c .before .before in
-    let l = p .before .before .before .before .before .before .loop in
-    let log = p .before .before .before .before .before .before .before .before .before .before .args .log .now in
-    let k : p .before .before .before .before .size-from-u16 .result ≡ l .i = p .before .before .before .before .size-from-u16 .ensures .0 in
-    let second : p .before .before .before .second-at .result ≡ le32 log (40 + 6 * l .i) = rw k at (p .before .before .before .second-at .ensures) in
-    let server : p .before .before .server-at .result ≡ le16 log (44 + 6 * l .i) = rw k at (p .before .before .server-at .ensures) in
-    let place : p .before .place .result ≡ suc (l .i) = rw k at (p .before .place .ensures) in (
+    let l = p .before .before .before .before .before .loop in
+    let log = p .before .before .before .before .before .before .before .before .before .args .log .now in
+    let second = p .before .before .before .request-at .ensures .0 in
+    let server = p .before .before .before .request-at .ensures .1 in
+    let place : p .before .place .result ≡ suc (l .i) = rw (p .before .before .size-from-u16 .ensures .0) at (p .before .place .ensures) in (
       search needs,
       rw (add-one (l .i))
           (each-more (log-requests log) (l .i) (l .inv .1)
-          (request-found log (l .i) _ _ _ _ _ _ (search needs) (p .before .before .before .before .before .before .before .before .at .ensures) server second (l .inv .2) place (p .request-fault .ensures)
+          (request-found log (l .i) _ _ _ _ _ _ (search needs) (p .before .before .before .before .before .before .before .at .ensures) server second (l .inv .2) place (p .request-fault .ensures)
           ∙ c .enum-told .given .1)),
       rw (second, add-one (l .i)) (sym (before-next log (l .i) (search needs))),
     )
@@ -108,9 +102,8 @@ requests-fault-spec =
     at-requires
     at16-requires
     loop-holds
+    request-at-requires
     size-from-u16-requires
-    second-at-requires
-    server-at-requires
     place-requires
     request-fault-requires
     enum-known-v

@@ -20,17 +20,14 @@ loop-holds c = (search needs, filling-begins _ _, filling-begins _ _)
 size-from-u16-requires : tie.Need-size-from-u16-requires Inv-loop μ-loop
 size-from-u16-requires c κs = search needs
 
-second-at-requires : tie.Need-second-at-requires Inv-loop μ-loop
-second-at-requires c κs = search needs
+request-at-requires : tie.Need-request-at-requires Inv-loop μ-loop
+request-at-requires c κs = search needs
 
 mul-seconds : tie.Need-mul-seconds Inv-loop μ-loop
 mul-seconds c = search needs
 
 slice-write-seconds : tie.Need-slice-write-seconds Inv-loop μ-loop
 slice-write-seconds c = search needs
-
-server-at-requires : tie.Need-server-at-requires Inv-loop μ-loop
-server-at-requires c κs = search needs
 
 mul-servers : tie.Need-mul-servers Inv-loop μ-loop
 mul-servers c = search needs
@@ -46,11 +43,11 @@ loop-less c = search needs
 
 loop-again : tie.Need-loop-again Inv-loop μ-loop
 loop-again c =
-    let l = c .before .before .before .before .loop in
-    let k = c .before .before .size-from-u16 .ensures .0 in (
+    let l = c .before .before .before .loop in
+    let k = c .before .size-from-u16 .ensures .0 in (
       search needs,
-      filling-next _ _ _ (l .i) _ _ (l .inv .1) (search needs) k (c .before .second-at .ensures),
-      filling-next _ _ _ (l .i) _ _ (l .inv .2) (search needs) k (c .server-at .ensures),
+      filling-next _ _ _ (l .i) _ _ (l .inv .1) (search needs) k (rw k (c .request-at .ensures .0)),
+      filling-next _ _ _ (l .i) _ _ (l .inv .2) (search needs) k (rw k (c .request-at .ensures .1)),
     )
 
 same-length : tie.Need-same-length Inv-loop μ-loop
@@ -73,10 +70,9 @@ put-requests-spec =
     μ-loop
     loop-holds
     size-from-u16-requires
-    second-at-requires
+    request-at-requires
     mul-seconds
     slice-write-seconds
-    server-at-requires
     mul-servers
     slice-write-servers
     add-i

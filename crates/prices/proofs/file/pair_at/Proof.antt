@@ -55,9 +55,9 @@ returns c =
     let a = c .before .before .before .before .before .before .args in
     let n = c .before .before .before .before .size-from-u16 in
     let i = 4 + 8 * n .result in
-    pair-read (a .file .now) (a .class) i (i + 4) _ _ (omega (arith, n .ensures)) (omega (arith, n .ensures))
-    (c .before .before .at32 .ensures ∙ le32-part _ i (i + 4 - i) (omega arith))
-    (c .at322 .ensures ∙ le32-part _ (i + 4) (i + 8 - (i + 4)) (omega arith))
+    pair-read (a .file .now) (a .class) (i + 0) (i + 4 + 0) _ _ (omega (arith, n .ensures)) (omega (arith, n .ensures))
+    (c .before .before .at32 .ensures ∙ le32-part _ i (i + 4 - i) 0 (omega arith))
+    (c .at322 .ensures ∙ le32-part _ (i + 4) (i + 8 - (i + 4)) 0 (omega arith))
 
 pub pair-at-spec : {M : Type 1} → statement M
 pair-at-spec =

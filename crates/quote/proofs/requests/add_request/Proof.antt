@@ -3,12 +3,6 @@ use borrow.Author.Needs.{needs}
 use Rattle.quote.proofs.requests.add_request.Statement.{statement}
 use Rattle.quote.proofs.requests.add_request.Tie as tie
 
-second-of-requires : tie.Need-second-of-requires
-second-of-requires c κs = search needs
-
-server-of-requires : tie.Need-server-of-requires
-server-of-requires c κs = search needs
-
 size-from-u16-requires : tie.Need-size-from-u16-requires
 size-from-u16-requires c κs = search needs
 
@@ -28,18 +22,12 @@ own-since-requires : tie.Need-own-since-requires
 own-since-requires c κs = search needs
 
 returns : tie.Need-returns
-returns c =
-    let y = c .before .before .size-from-u16 .ensures .0 in
-    let w = c .before .before .before .server-of .ensures in
-    let t = c .before .before .before .before .second-of .ensures in
-    (rw (c .own-since .ensures, y, w, t), rw (y, w, t))
+returns c = let y = c .before .before .size-from-u16 .ensures .0 in (rw (c .own-since .ensures, y), rw y)
 
 pub add-request-spec : {M : Type 1} → statement M
 add-request-spec =
     tie.close
     (tie.spec
-    second-of-requires
-    server-of-requires
     size-from-u16-requires
     mul-last
     element-copy-out-last

@@ -5,10 +5,11 @@ use native.Mathlib.Omega.{arith}
 use Prim.Native.Nat.{suc, _-_, _≤_, _<_}
 use mathlib.Core.Path.{_≡_, refl, _∙_}
 use Rattle.log.specs.Fields.{home-of, request-count}
+use Rattle.log.specs.RequestLaws.{request-part}
 use Rattle.model.specs.LogRequests.{requests-in}
 use Rattle.model.specs.Quote.{sum-part}
 use Rattle.model.specs.Sums.{sum}
-use Rattle.quote.specs.Lasts.{lasts, lasts-zero, server-small, lasts-next, sum-next}
+use Rattle.quote.specs.Lasts.{lasts, lasts-zero, request-there, server-small, lasts-next, sum-next}
 use Rattle.quote.specs.Most.{sum-most}
 use Rattle.quote.proofs.requests.sum_part.Statement.{statement}
 use Rattle.quote.proofs.requests.sum_part.Tie as tie
@@ -47,20 +48,54 @@ loop-holds c =
     let home = c .before .size-from-u16 .ensures .0 ∙ c .before .before .u16-from-u8 .ensures .0 ∙ c .before .before .before .at .ensures in
     (search needs, rw home (lasts-zero log), refl)
 
+request-place-requires : tie.Need-request-place-requires Inv-loop μ-loop
+request-place-requires c κs = search needs
+
+add-request-in : tie.Need-add-request-in Inv-loop μ-loop
+add-request-in c = search needs
+
+sub-request-in : tie.Need-sub-request-in Inv-loop μ-loop
+sub-request-in c = search needs
+
+part-request-in-start : tie.Need-part-request-in-start Inv-loop μ-loop
+unfolding request-count
+part-request-in-start c =
+    let s = c .before .before .before .before .before .before .before .before in
+    let h : c .before .before .loop .k < request-count (s .args .log .now) = omega (arith, c .before .before .before .at16 .ensures) in
+    let there = request-there (s .args .log .now) (s .pre .1) (c .before .before .loop .k) h in
+    search needs
+
+part-request-in-end : tie.Need-part-request-in-end Inv-loop μ-loop
+unfolding request-count
+part-request-in-end c =
+    let s = c .before .before .before .before .before .before .before .before in
+    let h : c .before .before .loop .k < request-count (s .args .log .now) = omega (arith, c .before .before .before .at16 .ensures) in
+    let there = request-there (s .args .log .now) (s .pre .1) (c .before .before .loop .k) h in
+    search needs
+
+request-in-requires : tie.Need-request-in-requires Inv-loop μ-loop
+request-in-requires c κs = search needs
+
 add-request-requires : tie.Need-add-request-requires Inv-loop μ-loop
 unfolding request-count
 add-request-requires c κs =
-    let s = c .before .before .before .before .before .before .before .before in
-    server-small (s .args .log .now) (s .pre .1) (c .before .before .loop .k) (omega (arith, c .before .before .before .at16 .ensures))
+    let s = c .before .before .before .before .before .before .before .before .before .before .before in
+    let k = c .before .before .before .before .before .loop .k in
+    let h : k < request-count (s .args .log .now) = omega (arith, c .before .before .before .before .before .before .at16 .ensures) in
+    let read = request-part (s .args .log .now) k _ (c .before .before .before .request-place .ensures) in
+    rw (c .before .request-in .ensures .1 ∙ read .1) (server-small (s .args .log .now) (s .pre .1) k h)
 
 add-sum : tie.Need-add-sum Inv-loop μ-loop
 unfolding request-count
 add-sum c =
-    let s = c .before .before .before .before .before .before .before .before .before in
-    let l = c .before .before .before .loop in
-    let h : l .k < request-count (s .args .log .now) = omega (arith, c .before .before .before .before .at16 .ensures) in
-    let e = sum-next (s .args .log .now) (s .pre .1) (l .k) h (s .args .p) _ _ _ (l .inv .1) (l .inv .2) (c .add-request .ensures .0) in
-    record { fits = omega (arith, e, sum-most (s .args .p) (s .pre .0) (s .args .log .now) (s .pre .1) (suc (l .k)) h) }
+    let s = c .before .before .before .before .before .before .before .before .before .before .before .before in
+    let l = c .before .before .before .before .before .before .loop in
+    let log = s .args .log .now in
+    let h : l .k < request-count log = omega (arith, c .before .before .before .before .before .before .before .at16 .ensures) in
+    let read = request-part log (l .k) _ (c .before .before .before .before .request-place .ensures) in
+    let added = rw (c .before .before .request-in .ensures .0 ∙ read .0, c .before .before .request-in .ensures .1 ∙ read .1) at (c .add-request .ensures .0) in
+    let e = sum-next log (s .pre .1) (l .k) h (s .args .p) _ _ _ (l .inv .1) (l .inv .2) added in
+    record { fits = omega (arith, e, sum-most (s .args .p) (s .pre .0) log (s .pre .1) (suc (l .k)) h) }
 
 add-k : tie.Need-add-k Inv-loop μ-loop
 add-k c = search needs
@@ -71,13 +106,16 @@ loop-less c = search needs
 loop-again : tie.Need-loop-again Inv-loop μ-loop
 unfolding request-count
 loop-again c =
-    let s = c .before .before .before .before .before .before .before .before .before in
-    let l = c .before .before .before .loop in
+    let s = c .before .before .before .before .before .before .before .before .before .before .before .before in
+    let l = c .before .before .before .before .before .before .loop in
     let log = s .args .log .now in
-    let h : l .k < request-count log = omega (arith, c .before .before .before .before .at16 .ensures) in (
+    let h : l .k < request-count log = omega (arith, c .before .before .before .before .before .before .before .at16 .ensures) in
+    let read = request-part log (l .k) _ (c .before .before .before .before .request-place .ensures) in
+    let second = c .before .before .request-in .ensures .0 ∙ read .0 in
+    let server = c .before .before .request-in .ensures .1 ∙ read .1 in (
       search needs,
-      rw (c .add-request .ensures .1, l .inv .1, add-one (l .k)) (lasts-next log (s .pre .1) (l .k) h),
-      rw (add-one (l .k)) (sum-next log (s .pre .1) (l .k) h (s .args .p) _ _ _ (l .inv .1) (l .inv .2) (c .add-request .ensures .0)),
+      rw (c .add-request .ensures .1, l .inv .1, second, server, add-one (l .k)) (lasts-next log (s .pre .1) (l .k) h),
+      rw (add-one (l .k)) (sum-next log (s .pre .1) (l .k) h (s .args .p) _ _ _ (l .inv .1) (l .inv .2) (rw (second, server) at (c .add-request .ensures .0))),
     )
 
 returns : tie.Need-returns Inv-loop μ-loop
@@ -99,6 +137,12 @@ sum-part-spec =
     array-write-lasts
     at16-requires
     loop-holds
+    request-place-requires
+    add-request-in
+    sub-request-in
+    part-request-in-start
+    part-request-in-end
+    request-in-requires
     add-request-requires
     add-sum
     add-k
