@@ -6,8 +6,8 @@ use Rattle.model.specs.Sums.{sum}
 use Rattle.model.specs.Requests.{Requests, previous}
 
 module _ (p : Prices) (q : Requests) where
-  -- for request i the smaller of the transfer price and the hold price × the seconds since its server's previous request, or the transfer price
-  -- where there was none
+  -- for request i the smaller of the transfer price and the hold price × the seconds since its server's previous request, of which home has one at
+  -- second 0, or the transfer price where there was none
   unfoldable pub least-own : ℕ → ℕ
   least-own i = elim (previous q i) [ none ↦ p .transfer | some j ↦ min (p .transfer) (p .hold * (q .time i - q .time j)) ]
 
