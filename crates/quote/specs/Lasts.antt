@@ -1,7 +1,7 @@
 -- The last second at each server, as the code holds it, and what a request costs by itself by that. Assumes nothing.
 use mathlib.Core.List.{List}
 use mathlib.Core.Option.{Option, none, some}
-use mathlib.Core.Path.{_≡_, refl, sym, ap, _∙_}
+use mathlib.Core.Path.{_≡_, refl, ap, _∙_}
 use native.Mathlib.Omega.{arith}
 use Prim.Native.Nat.{ℕ, suc, _+_, _-_, _*_, _≤_, _<_, min}
 use lib.Dec.{ltb}
@@ -26,7 +26,7 @@ unfoldable pub last-second : Requests → Option ℕ → ℕ
 last-second q none = 4294967295
 last-second q (some j) = q .time j
 
--- what a request at a second costs by itself, by the last second at its server
+-- what a request at a second costs by itself, by the last second at its server; one that comes after it stands for none
 unfoldable pub own-since : Prices → ℕ → ℕ → ℕ
 own-since p last second = pick (ltb second last) (p .transfer) (min (p .transfer) (p .hold * (second - last)))
 

@@ -23,7 +23,7 @@ use prices::times;
 // What stands for the last second of a server without a request: it comes after every second of a log.
 const NONE: u32 = 4294967295;
 
-// What a request costs by itself, by the last second at its server.
+// What a request costs by itself, by the last second at its server; one that comes after it stands for none.
 fn own_since(p: Prices, last: u32, second: u32) -> u64
     ensures { λ r. ⌜ r ≡ own-since p last second ⌝ }
 {

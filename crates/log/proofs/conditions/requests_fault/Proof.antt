@@ -1,11 +1,10 @@
 -- `log::conditions::requests_fault` meets its contract. Assumes nothing.
 use borrow.Author.Needs.{needs}
 use mathlib.Core.Path.{_≡_, refl, sym, _∙_}
-use Prim.Native.Nat.{suc, _≤_, _+_, _*_, _-_}
+use Prim.Native.Nat.{suc, _≤_, _-_}
 use native.Mathlib.Omega.{arith}
 use native.Mathlib.Numerals.{add-one}
 use Rattle.log.specs.ConditionLaws.{request-found}
-use Rattle.base.specs.Bytes.{le16, le32}
 use Rattle.base.specs.Refusals.{first, each}
 use Rattle.base.specs.RefusalLaws.{each-refused}
 use Rattle.base.specs.declared.Verdict.the-variants.{Passed}
