@@ -129,9 +129,9 @@ struct caching_answer caching_least(const uint8_t *log, size_t log_length, uint6
 struct caching_answer caching_least_with(const uint8_t *prices, size_t prices_length, const uint8_t *log, size_t log_length,
                                          uint64_t *costs, size_t costs_length);
 
-/* value: the quote, which is at least the least cost and at most twice that: for each request the smaller of the transfer price and the hold price times
- * the seconds since its server's previous request (home has one at second 0), or the transfer price if there was none; and the hold price times the last
- * request's second */
+/* value: the quote, which is at least the least cost and at most twice that. It is a sum: for each request the smaller of the transfer price and the hold
+ * price times the seconds since its server's previous request (home has one at second 0), or the transfer price if there was none; and the hold price
+ * times the last request's second. 0 for an empty log */
 struct caching_answer caching_quote(const uint8_t *log, size_t log_length);
 
 struct caching_answer caching_quote_with(const uint8_t *prices, size_t prices_length, const uint8_t *log, size_t log_length);

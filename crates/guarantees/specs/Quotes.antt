@@ -27,13 +27,9 @@ use Rattle.model.specs.Quote.{sum-part, hold-part, quote-of}
 use Rattle.model.specs.QuoteLaws.{sum-below, hold-below, quote-above}
 use Rattle.planner.specs.Answers.{least-costs}
 use Rattle.quote.specs.declared.Quoted.the-variants as answer
-use Rattle.quote.specs.Answers.{quoted, quote-answer}
+use Rattle.quote.specs.Answers.{quote-in, quoted, quote-answer}
 use Rattle.guarantees.specs.Calls.{quote-decided}
 use Rattle.guarantees.specs.Demand3.{planned-best}
-
--- the quote of all requests of a log
-abbrev pub quote-in : Tariff → List ℕ → ℕ
-quote-in t log = quote-of (prices-in t log) (requests-in log) (request-count log)
 
 -- a quote is answered where the verdict passed, a refusal where it is refused
 cost-passed : (v : Verdict) (q c : ℕ) → quoted v q ≡ answer.Cost c → (v ≡ Passed) × (c ≡ q)
@@ -69,7 +65,7 @@ empty-quoted t log e = rw e (omega arith)
 pub record Within-twice (t : Tariff) (log : List ℕ) (least : ℕ) : Type 0 where
   -- the quote is what the call answers
   pub answered : quote-answer t log ≡ answer.Cost (quote-in t log)
-  -- that is the least cost of all its requests
+  -- `least` is the least cost of all its requests
   pub is-least : Least (prices-in t log) (server-count log) (requests-in log) (request-count log) least
   -- neither part exceeds it
   pub sum-most : sum-part (prices-in t log) (requests-in log) (request-count log) ≤ least

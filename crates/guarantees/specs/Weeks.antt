@@ -1,4 +1,4 @@
--- 01's worked weeks A to I, with 02's closing costs and quotes: one table, and one proof of all of it by computing the definitions.
+-- 01's worked weeks A to I, with 02's closing costs, and its quotes of A to F: one table, and one proof of all of it by computing the definitions.
 use mathlib.Core.Bool.{true}
 use mathlib.Core.List.{List, [], _∷_, _++_}
 use mathlib.Core.Path.{_≡_, refl}

@@ -1,10 +1,8 @@
 -- The conditions on each request, and a log's verdict part by part, as the code comes by them.
 use mathlib.Core.Bool.{false, not}
 use mathlib.Core.List.{List, [], _∷_}
-use mathlib.Core.Logic.{_≢_}
 use mathlib.Core.Path.{_≡_, refl, ap, sym, _∙_}
-use native.Mathlib.Omega.{arith}
-use Prim.Native.Nat.{ℕ, zero, suc, _+_, _*_, _<_}
+use Prim.Native.Nat.{ℕ, suc, _+_, _*_, _<_}
 use lib.Dec.{eqb}
 use lib.ListN.{getD}
 use Rattle.base.specs.Refusals.{Condition, refuse, first, or-else, from, each, otherwise}
@@ -42,17 +40,7 @@ pub before-next : (s : List ℕ) (i : ℕ) → i < request-count s → before (s
 unfolding before seconds-of
 before-next s i h = build-at (request-count s) _ i 0 h
 
--- that of the last one: 0 where there is none, else six bytes before the log's end
-pub last-none : (s : List ℕ) (n : ℕ) → n ≡ request-count s → n ≡ 0 → before (seconds-of s) (request-count s) ≡ 0
-unfolding before
-last-none s n e z = rw (← e, z)
-
-pub last-read : (s : List ℕ) (n : ℕ) → n ≡ request-count s → n ≢ 0 → before (seconds-of s) (request-count s) ≡ le32 s (34 + 6 * n)
-last-read s zero e d = absurd (d refl)
-last-read s (suc k) e d =
-    let p : 40 + 6 * k ≡ 34 + 6 * suc k = omega arith in
-    ap (before (seconds-of s)) (sym e) ∙ before-next s k (omega arith) ∙ ap (le32 s) p
-
+-- the conditions on request i, by what its bytes say
 pub log-request : (s : List ℕ) (i : ℕ) → i < request-count s
     → log-requests s i ≡ request-check (server-count s) (le16 s (44 + 6 * i)) (le32 s (40 + 6 * i)) (before (seconds-of s) i) (suc i)
 unfolding request-conditions seconds-of servers-of

@@ -7,8 +7,8 @@ pub mod Contents
 pub mod Ranges
 pub mod Answers
 -- What is proved of it.
-pub mod RequestLaws
 pub mod ConditionLaws
+pub mod RequestLaws
 pub mod ContentsLaws
 pub mod AcceptedLaws
 pub mod EncodeLaws

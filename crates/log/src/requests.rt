@@ -17,7 +17,7 @@ pub fn request_place(k: u16) -> usize
     40 + 6 * size_from_u16(k)
 }
 
-// A request by its six bytes; 0 stands for one that is not there.
+// A request by its six bytes; 0 stands for a byte that is not there.
 pub fn request_in(bytes: &[u8]) -> Request
     ensures { λ r. ⌜ (r .second ≡ le32 (now (bytes .entry)) 0) × (r .server ≡ le16 (now (bytes .entry)) 4) ⌝ }
 {

@@ -1,4 +1,4 @@
--- Crate model: 01's 'Schedules' and 'The plan'.
+-- Crate model: 01's 'Schedules' and 'The plan', and 02's quote.
 -- What a reader believes: the definitions.
 pub mod Sums
 pub mod Requests

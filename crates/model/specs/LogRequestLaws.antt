@@ -1,5 +1,5 @@
--- The requests of a log where they stand in its bytes. Those of an accepted log rise, are in range and stay below its server count, its prices are in
--- range, and a cut log has the first of them.
+-- The requests of a log where they stand in its bytes. Those of a sound log rise, are in range and stay below its server count; so do an accepted log's,
+-- whose prices are in range, and a cut log has the first of them.
 use mathlib.Core.List.{List, _∷_}
 use mathlib.Core.Path.{_≡_, refl, ap}
 use native.Mathlib.Omega.{arith}

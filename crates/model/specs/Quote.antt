@@ -1,4 +1,4 @@
--- Req 07's quote: a figure for requests without a plan of them. Assumes nothing.
+-- The quote of 02's Req 07: a figure for requests without a plan of them. Assumes nothing.
 use mathlib.Core.Option.{none, some}
 use Prim.Native.Nat.{ℕ, _+_, _-_, _*_, min}
 use Rattle.prices.specs.declared.Prices.{Prices}

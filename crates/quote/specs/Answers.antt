@@ -11,11 +11,15 @@ use Rattle.model.specs.Quote.{quote-of}
 use Rattle.quote.specs.declared.Quoted.{Quoted}
 use Rattle.quote.specs.declared.Quoted.the-variants as answer
 
+-- the quote of all requests of a log
+abbrev pub quote-in : Tariff → List ℕ → ℕ
+quote-in t log = quote-of (prices-in t log) (requests-in log) (request-count log)
+
 -- the answer by a verdict: the quote, or the refusal
 unfoldable pub quoted : Verdict → ℕ → Quoted
 quoted Passed cost = answer.Cost cost
 quoted (Refused r) cost = answer.Refused r
 
--- what is answered to the bytes of a log: what its price file or the log is refused with, else the quote of all its requests
+-- what is answered to the bytes of a log: what its price file or the log is refused with, else its quote
 unfoldable pub quote-answer : Tariff → List ℕ → Quoted
-quote-answer t log = quoted (verdict-of t log) (quote-of (prices-in t log) (requests-in log) (request-count log))
+quote-answer t log = quoted (verdict-of t log) (quote-in t log)

@@ -21,38 +21,42 @@ use Rattle.model.specs.Quote.{least-own, sum-part}
 use Rattle.model.specs.RecentLaws.{recents, recents-zero, recents-at, recents-next}
 use Rattle.model.specs.TableLists.{at}
 
--- the second of the latest request at a server; 4,294,967,295 stands for none
-unfoldable pub last-second : Requests → Option ℕ → ℕ
-last-second q none = 4294967295
-last-second q (some j) = q .time j
+-- what stands for the last second of a server without a request
+abbrev pub no-second : ℕ
+no-second = 4294967295
+
+-- the second of the latest request at a server
+unfoldable pub latest-second : Requests → Option ℕ → ℕ
+latest-second q none = no-second
+latest-second q (some j) = q .time j
 
 -- what a request at a second costs by itself, by the last second at its server; one that comes after it stands for none
 unfoldable pub own-since : Prices → ℕ → ℕ → ℕ
 own-since p last second = pick (ltb second last) (p .transfer) (min (p .transfer) (p .hold * (second - last)))
 
 -- that is what it costs, by its previous request
-pub own-last : (p : Prices) (q : Requests) (n i : ℕ) → Rising q n → i ≤ n → q .time i < 4294967295
-    → own-since p (last-second q (previous q i)) (q .time i) ≡ least-own p q i
-unfolding own-since last-second least-own
+pub own-last : (p : Prices) (q : Requests) (n i : ℕ) → Rising q n → i ≤ n → q .time i < no-second
+    → own-since p (latest-second q (previous q i)) (q .time i) ≡ least-own p q i
+unfolding own-since latest-second least-own
 own-last p q n i rising h small = go (previous q i) refl
   where
-    go : (o : Option ℕ) → previous q i ≡ o → own-since p (last-second q (previous q i)) (q .time i) ≡ least-own p q i
-    go none e = rw (e, least-own, lt-ltb (q .time i) 4294967295 small)
+    go : (o : Option ℕ) → previous q i ≡ o → own-since p (latest-second q (previous q i)) (q .time i) ≡ least-own p q i
+    go none e = rw (e, least-own, lt-ltb (q .time i) no-second small)
     go (some j) e =
         let b : j < i = previous-some q i j e .below in
         rw (e, least-own, le-ltb (q .time i) (q .time j) (rises-le rising j i (omega arith) h))
 
 -- the last second at each of 64 servers after the first k requests of a log, home's second 0 among them
 unfoldable pub lasts : List ℕ → ℕ → List ℕ
-lasts log k = recents (requests-in log .server) (last-second (requests-in log)) (suc k)
+lasts log k = recents (requests-in log .server) (latest-second (requests-in log)) (suc k)
 
 -- before any request only home has one
-pub lasts-zero : (log : List ℕ) → set (replicate 64 4294967295) (home-of log) 0 ≡ lasts log 0
-unfolding lasts last-second requests-in requests
+pub lasts-zero : (log : List ℕ) → set (replicate 64 no-second) (home-of log) 0 ≡ lasts log 0
+unfolding lasts latest-second requests-in requests
 lasts-zero log =
     let q = requests-in log in
-    ap (λ (l : List ℕ). set l (home-of log) 0) (recents-zero (q .server) (last-second q))
-    ∙ recents-next (q .server) (last-second q) 0
+    ap (λ (l : List ℕ). set l (home-of log) 0) (recents-zero (q .server) (latest-second q))
+    ∙ recents-next (q .server) (latest-second q) 0
 
 module _ (log : List ℕ) (sound : Sound log) (k : ℕ) (h : k < request-count log) where
   -- request k + 1 is there
@@ -72,15 +76,15 @@ module _ (log : List ℕ) (sound : Sound log) (k : ℕ) (h : k < request-count l
   lasts-own p =
       let q = requests-in log in
       rw (← server-read log k h, ← time-read log k h)
-      (ap (λ (l : ℕ). own-since p l (q .time (suc k))) (recents-at (q .server) (last-second q) (suc k) (q .server (suc k)) (rw (server-read log k h) server-small))
+      (ap (λ (l : ℕ). own-since p l (q .time (suc k))) (recents-at (q .server) (latest-second q) (suc k) (q .server (suc k)) (rw (server-read log k h) server-small))
       ∙ own-last p q (request-count log) (suc k) (sound-rising log sound) h (omega (arith, sound-seconds log sound (suc k) h)))
 
   -- and the list with its second
   pub lasts-next : set (lasts log k) (le16 log (44 + 6 * k)) (le32 log (40 + 6 * k)) ≡ lasts log (suc k)
-  unfolding lasts last-second
+  unfolding lasts latest-second
   lasts-next =
       let q = requests-in log in
-      rw (← server-read log k h, ← time-read log k h) (recents-next (q .server) (last-second q) (suc k))
+      rw (← server-read log k h, ← time-read log k h) (recents-next (q .server) (latest-second q) (suc k))
 
   -- and what all requests add with it
   pub sum-next : (p : Prices) (l : List ℕ) (x r : ℕ) → l ≡ lasts log k → x ≡ sum-part p (requests-in log) k

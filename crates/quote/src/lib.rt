@@ -1,4 +1,4 @@
-// Req 07's quote: a figure within twice the least cost, in one pass over a log's requests.
+// The quote of 02's Req 07: a figure within twice the least cost, after the log is judged in one pass over its requests.
 mod quoting;
 mod requests;
 

@@ -21,7 +21,7 @@ use prices::file_fault;
 use prices::of_class;
 use prices::times;
 
-// Both parts of the quote.
+// Both parts of the quote together.
 fn cost(p: Prices, log: &[u8]) -> u64
     requires { ⌜ In-range p × Sound (now log) ⌝ }
     ensures { λ r. ⌜ r ≡ quote-of p (requests-in (now (log .entry))) (request-count (now (log .entry))) ⌝ }

@@ -2,7 +2,7 @@
 use borrow.Author.Needs.{needs}
 use mathlib.Core.Path.{sym}
 use Rattle.log.specs.Fields.{request-count}
-use Rattle.log.specs.ConditionLaws.{last-none, last-read}
+use Rattle.log.specs.RequestLaws.{last-none, last-read}
 use Rattle.log.proofs.requests.last_second.Statement.{statement}
 use Rattle.log.proofs.requests.last_second.Tie as tie
 
