@@ -42,19 +42,17 @@ pub record Given : Type 0 where
   pub seconds : List ℕ
   pub servers : List ℕ
 
--- a planned week: least and running cost before any request and after each, the closing cost after all, the plan's and the online cache's marks, the
--- plan's rows as numbers
+-- a planned week: least and running cost before any request and after each, the closing cost after all and the quote, the plan's and the online cache's
+-- marks, the plan's rows as numbers
 -- a tied week: how many legal markings have a cost
 -- a checked list of rows: number and place of a refusal and 0, or 0, 0 and the cost
 -- a log: the verdict's number and place
--- a quoted week: the quote of its log
 -- a printed week: what the program writes for its log
 pub data Week : Type 0 where
-  planned : Given → (least running : List ℕ) → (closing : ℕ) → (marks live rows : List ℕ) → Week
+  planned : Given → (least running : List ℕ) → (closing quoted : ℕ) → (marks live rows : List ℕ) → Week
   checked : Given → (rows : List ℕ) → (number place cost : ℕ) → Week
   logged : Given → (number place : ℕ) → Week
   tied : Given → (cost count : ℕ) → Week
-  quoted : Given → (cost : ℕ) → Week
   printed : Given → (text : String) → Week
 
 -- a verdict as number and place, 0 and 0 where nothing is refused
@@ -122,20 +120,20 @@ log-of g = encode (contents (g .header) (g .seconds) (g .servers))
 
 -- what the definitions say of a week is what 01 says
 unfoldable pub right : Week → Bool
-right (planned g least costs closing marks live rows) =
+right (planned g least costs closing quoted marks live rows) =
     both (same (least-so-far g) least)
     (both (same (costs-from (start-of g) (g .header .id) (g .seconds) (g .servers)) costs)
     (both (eqb (close-after (start-of g) (g .header .id) (g .seconds) (g .servers)) closing)
+    (both (same (quote-numbers (quote-answer built-in (log-of g))) (0 ∷ 0 ∷ quoted ∷ []))
     (both (same (plan-letters g) marks)
     (both (same (letters-from (start-of g) (g .header .id) (g .seconds) (g .servers)) live)
-    (same (plan-numbers g) rows)))))
+    (same (plan-numbers g) rows))))))
 right (checked g rows number place c) = same (answer-numbers (check-answer built-in (log-of g) rows)) (number ∷ place ∷ c ∷ [])
 right (logged g number place) = same (as-numbers (verdict-of built-in (log-of g))) (number ∷ place ∷ [])
 right (tied g c n) =
     let q = requests-given g in
     let k = length (g .seconds) in
     eqb (total (λ m. pick (eqb (cost (prices-of classes (g .header .«class»)) q m k) c) 1 0) (markings q k)) n
-right (quoted g c) = same (quote-numbers (quote-answer built-in (log-of g))) (0 ∷ 0 ∷ c ∷ [])
 right (printed g text) = same (output built-in (log-of g)) (ascii text)
 
 -- every week of a table is right

@@ -39,7 +39,7 @@ use Rattle.report.specs.Live.{scans, state-after, live-mark, live-cost, opened,
 use Rattle.report.specs.Replies.{close-cost}
 use Rattle.report.specs.Sheet.{columns-of, sheet-of}
 use Rattle.report.specs.Output.{output-by, output}
-use Rattle.guarantees.specs.Week.{Given, Week, planned, checked, logged, tied, quoted, printed, as-numbers, answer-numbers, quote-numbers, requests-given, live-letter, least-so-far, plan-letters, plan-numbers, costs-from, close-after, letters-from, start-of, log-of, right, all-right}
+use Rattle.guarantees.specs.Week.{Given, Week, planned, checked, logged, tied, printed, as-numbers, answer-numbers, quote-numbers, requests-given, live-letter, least-so-far, plan-letters, plan-numbers, costs-from, close-after, letters-from, start-of, log-of, right, all-right}
 
 -- K and S
 abbrev k : ℕ
@@ -55,36 +55,29 @@ given class′ count ts xs =
 
 -- A no requests; B 002's example times ten; C, and that two other markings cost the same; D; E; F class 6
 -- G a cycle with no copy behind it, and with one; H the last second; I equal seconds
--- the quotes of A to F
 -- and what the program prints for A, in classes 0, 2 and 6, for C and for I
 unfoldable pub weeks : List Week
 weeks =
-    planned (given 0 2 [] []) (0 ∷ []) (0 ∷ []) 10 [] [] []
+    planned (given 0 2 [] []) (0 ∷ []) (0 ∷ []) 10 0 [] [] []
     ∷ planned (given 0 4 (5 ∷ 8 ∷ 11 ∷ 14 ∷ 26 ∷ 32 ∷ 40 ∷ []) (1 ∷ 2 ∷ 3 ∷ 0 ∷ 1 ∷ 1 ∷ 2 ∷ []))
-    (0 ∷ 15 ∷ 28 ∷ 41 ∷ 44 ∷ 65 ∷ 71 ∷ 89 ∷ []) (0 ∷ 15 ∷ 31 ∷ 50 ∷ 62 ∷ 102 ∷ 114 ∷ 136 ∷ []) 156
+    (0 ∷ 15 ∷ 28 ∷ 41 ∷ 44 ∷ 65 ∷ 71 ∷ 89 ∷ []) (0 ∷ 15 ∷ 31 ∷ 50 ∷ 62 ∷ 102 ∷ 114 ∷ 136 ∷ []) 156 106
     (s ∷ s ∷ s ∷ k ∷ k ∷ k ∷ s ∷ []) (s ∷ s ∷ s ∷ k ∷ s ∷ k ∷ s ∷ [])
     (0 ∷ 0 ∷ 0 ∷ 14 ∷ 0 ∷ 1 ∷ 5 ∷ 40 ∷ 1 ∷ 0 ∷ 1 ∷ 5 ∷ 1 ∷ 1 ∷ 2 ∷ 8 ∷ 1 ∷ 1 ∷ 3 ∷ 11 ∷ 1 ∷ 1 ∷ 2 ∷ 40 ∷ [])
     ∷ planned (given 0 3 (1 ∷ 2 ∷ 11 ∷ 12 ∷ []) (1 ∷ 2 ∷ 1 ∷ 0 ∷ []))
-    (0 ∷ 11 ∷ 22 ∷ 31 ∷ 42 ∷ []) (0 ∷ 11 ∷ 23 ∷ 50 ∷ 62 ∷ []) 82 (s ∷ s ∷ k ∷ k ∷ []) (s ∷ s ∷ k ∷ s ∷ [])
+    (0 ∷ 11 ∷ 22 ∷ 31 ∷ 42 ∷ []) (0 ∷ 11 ∷ 23 ∷ 50 ∷ 62 ∷ []) 82 52 (s ∷ s ∷ k ∷ k ∷ []) (s ∷ s ∷ k ∷ s ∷ [])
     (0 ∷ 0 ∷ 0 ∷ 12 ∷ 0 ∷ 1 ∷ 1 ∷ 11 ∷ 1 ∷ 0 ∷ 1 ∷ 1 ∷ 1 ∷ 1 ∷ 2 ∷ 2 ∷ [])
     ∷ tied (given 0 3 (1 ∷ 2 ∷ 11 ∷ 12 ∷ []) (1 ∷ 2 ∷ 1 ∷ 0 ∷ [])) 42 3
-    ∷ planned (given 0 2 (1 ∷ 11 ∷ []) (1 ∷ 0 ∷ [])) (0 ∷ 11 ∷ 21 ∷ []) (0 ∷ 11 ∷ 31 ∷ []) 41 (s ∷ k ∷ []) (s ∷ k ∷ [])
+    ∷ planned (given 0 2 (1 ∷ 11 ∷ []) (1 ∷ 0 ∷ [])) (0 ∷ 11 ∷ 21 ∷ []) (0 ∷ 11 ∷ 31 ∷ []) 41 31 (s ∷ k ∷ []) (s ∷ k ∷ [])
     (0 ∷ 0 ∷ 0 ∷ 11 ∷ 1 ∷ 0 ∷ 1 ∷ 1 ∷ [])
-    ∷ planned (given 0 2 (1 ∷ 12 ∷ []) (1 ∷ 0 ∷ [])) (0 ∷ 11 ∷ 22 ∷ []) (0 ∷ 11 ∷ 42 ∷ []) 62 (s ∷ k ∷ []) (s ∷ s ∷ [])
+    ∷ planned (given 0 2 (1 ∷ 12 ∷ []) (1 ∷ 0 ∷ [])) (0 ∷ 11 ∷ 22 ∷ []) (0 ∷ 11 ∷ 42 ∷ []) 62 32 (s ∷ k ∷ []) (s ∷ s ∷ [])
     (0 ∷ 0 ∷ 0 ∷ 12 ∷ 1 ∷ 0 ∷ 1 ∷ 1 ∷ [])
-    ∷ planned (given 6 2 (1 ∷ 2 ∷ []) (1 ∷ 0 ∷ [])) (0 ∷ 12 ∷ 19 ∷ []) (0 ∷ 12 ∷ 24 ∷ []) 24 (s ∷ k ∷ []) (s ∷ s ∷ [])
+    ∷ planned (given 6 2 (1 ∷ 2 ∷ []) (1 ∷ 0 ∷ [])) (0 ∷ 12 ∷ 19 ∷ []) (0 ∷ 12 ∷ 24 ∷ []) 24 24 (s ∷ k ∷ []) (s ∷ s ∷ [])
     (0 ∷ 0 ∷ 0 ∷ 2 ∷ 1 ∷ 0 ∷ 1 ∷ 1 ∷ [])
     ∷ checked (given 0 2 (1 ∷ []) (0 ∷ [])) (1 ∷ 0 ∷ 1 ∷ 1 ∷ 1 ∷ 1 ∷ 0 ∷ 1 ∷ []) 17 1 0
     ∷ checked (given 0 2 (1 ∷ []) (0 ∷ [])) (0 ∷ 0 ∷ 0 ∷ 1 ∷ 1 ∷ 0 ∷ 1 ∷ 1 ∷ 1 ∷ 1 ∷ 0 ∷ 1 ∷ []) 0 0 21
     ∷ logged (given 0 2 (4000000 ∷ []) (0 ∷ [])) 0 0
     ∷ logged (given 0 2 (4000001 ∷ []) (0 ∷ [])) 12 1
     ∷ logged (given 0 2 (5 ∷ 5 ∷ []) (0 ∷ 0 ∷ [])) 13 2
-    ∷ quoted (given 0 2 [] []) 0
-    ∷ quoted (given 0 4 (5 ∷ 8 ∷ 11 ∷ 14 ∷ 26 ∷ 32 ∷ 40 ∷ []) (1 ∷ 2 ∷ 3 ∷ 0 ∷ 1 ∷ 1 ∷ 2 ∷ [])) 106
-    ∷ quoted (given 0 3 (1 ∷ 2 ∷ 11 ∷ 12 ∷ []) (1 ∷ 2 ∷ 1 ∷ 0 ∷ [])) 52
-    ∷ quoted (given 0 2 (1 ∷ 11 ∷ []) (1 ∷ 0 ∷ [])) 31
-    ∷ quoted (given 0 2 (1 ∷ 12 ∷ []) (1 ∷ 0 ∷ [])) 32
-    ∷ quoted (given 6 2 (1 ∷ 2 ∷ []) (1 ∷ 0 ∷ [])) 24
     ∷ printed (given 0 2 [] []) "scan second station plan live least bill\nrows 0\nclose 10\n"
     ∷ printed (given 2 2 [] []) "scan second station plan live least bill\nrows 0\nclose 24\n"
     ∷ printed (given 6 2 [] []) "scan second station plan live least bill\nrows 0\nclose 0\n"
@@ -93,11 +86,13 @@ weeks =
     ∷ printed (given 0 2 (5 ∷ 5 ∷ []) (0 ∷ 0 ∷ [])) "refused input 13 place 2\n"
     ∷ []
 
--- a week of our own, where 002's table would take K at the last request for a cost that 01's marks do not allow
+-- weeks of our own: where 002's table would take K at the last request for a cost that 01's marks do not allow; where home's second 0 counts in the quote
 unfoldable pub own-weeks : List Week
 own-weeks =
-    planned (given 0 2 (1 ∷ 12 ∷ 13 ∷ []) (1 ∷ 1 ∷ 0 ∷ [])) (0 ∷ 11 ∷ 22 ∷ 33 ∷ []) (0 ∷ 11 ∷ 32 ∷ 43 ∷ []) 63 (s ∷ k ∷ s ∷ []) (s ∷ k ∷ s ∷ [])
+    planned (given 0 2 (1 ∷ 12 ∷ 13 ∷ []) (1 ∷ 1 ∷ 0 ∷ [])) (0 ∷ 11 ∷ 22 ∷ 33 ∷ []) (0 ∷ 11 ∷ 32 ∷ 43 ∷ []) 63 43 (s ∷ k ∷ s ∷ []) (s ∷ k ∷ s ∷ [])
     (0 ∷ 0 ∷ 0 ∷ 1 ∷ 0 ∷ 1 ∷ 1 ∷ 13 ∷ 1 ∷ 0 ∷ 1 ∷ 1 ∷ 1 ∷ 1 ∷ 0 ∷ 13 ∷ [])
+    ∷ planned (given 0 2 (3 ∷ 4 ∷ []) (0 ∷ 1 ∷ [])) (0 ∷ 3 ∷ 14 ∷ []) (0 ∷ 3 ∷ 14 ∷ []) 34 17 (k ∷ s ∷ []) (k ∷ s ∷ [])
+    (0 ∷ 0 ∷ 0 ∷ 4 ∷ 1 ∷ 0 ∷ 1 ∷ 4 ∷ [])
     ∷ []
 
 -- every line of the table holds
