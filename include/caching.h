@@ -5,6 +5,10 @@
  * refusals. A caller without a price file uses the other names, for which the built-in table of eight classes holds. Of these class 7 is no longer
  * sold: caching_write and caching_start refuse it with 43, right after 3, and every other call takes its logs. With a price file there is no 43.
  *
+ * A call whose name has uploads in it takes an upload price, from 1 to 1,000,000, right before the log: there every server can have a copy uploaded at
+ * any second for that price. Any other price, 0 too, is refused with 44, right after 13. The calls without uploads in their names know none; nor do the
+ * cache and the quote.
+ *
  * A cache serves one file: its state carries the id that its start was given, and each scan brings the id of the file that was asked for. A scan of
  * another file is refused with 39: the gate read another pass, the state is as it was, and nothing is charged. 39 comes after 11, 12, 32 and 33, and
  * before 34 and 35.
@@ -108,13 +112,19 @@ struct caching_answer caching_write_with(const uint8_t *prices, size_t prices_le
                                          size_t seconds_length, const uint16_t *servers, size_t servers_length, uint8_t *log,
                                          size_t log_length);
 
-/* rows_length counts numbers, four for each row; value: the cost of the rows */
+/* rows_length counts numbers, four for each row: 0, server, from, to; 1, source, target, second; with an upload price also 2, target, second, 0.
+ * value: the cost of the rows */
 struct caching_answer caching_check(const uint8_t *log, size_t log_length, const uint32_t *rows, size_t rows_length);
 
 struct caching_answer caching_check_with(const uint8_t *prices, size_t prices_length, const uint8_t *log, size_t log_length,
                                          const uint32_t *rows, size_t rows_length);
 
-/* marks are the letters K and S; a transfer leaves the server nearest its target of those that hold the file, the lower of two.
+struct caching_answer caching_check_uploads(uint32_t upload, const uint8_t *log, size_t log_length, const uint32_t *rows, size_t rows_length);
+
+struct caching_answer caching_check_uploads_with(const uint8_t *prices, size_t prices_length, uint32_t upload, const uint8_t *log,
+                                                 size_t log_length, const uint32_t *rows, size_t rows_length);
+
+/* marks are the letters K and S, with an upload price also U; a transfer leaves the server nearest its target of those that hold the file, the lower of two.
  * rows_length counts numbers, four for each row, and so does the place of 31 where rows are too short.
  * value: the least cost; more: how many rows, not numbers */
 struct caching_answer caching_plan(const uint8_t *log, size_t log_length, uint8_t *marks, size_t marks_length,
@@ -123,11 +133,22 @@ struct caching_answer caching_plan(const uint8_t *log, size_t log_length, uint8_
 struct caching_answer caching_plan_with(const uint8_t *prices, size_t prices_length, const uint8_t *log, size_t log_length, uint8_t *marks,
                                         size_t marks_length, uint32_t *rows, size_t rows_length);
 
+struct caching_answer caching_plan_uploads(uint32_t upload, const uint8_t *log, size_t log_length, uint8_t *marks, size_t marks_length,
+                                           uint32_t *rows, size_t rows_length);
+
+struct caching_answer caching_plan_uploads_with(const uint8_t *prices, size_t prices_length, uint32_t upload, const uint8_t *log,
+                                                size_t log_length, uint8_t *marks, size_t marks_length, uint32_t *rows, size_t rows_length);
+
 /* value: how many costs, one for each number of first requests, from none to all */
 struct caching_answer caching_least(const uint8_t *log, size_t log_length, uint64_t *costs, size_t costs_length);
 
 struct caching_answer caching_least_with(const uint8_t *prices, size_t prices_length, const uint8_t *log, size_t log_length,
                                          uint64_t *costs, size_t costs_length);
+
+struct caching_answer caching_least_uploads(uint32_t upload, const uint8_t *log, size_t log_length, uint64_t *costs, size_t costs_length);
+
+struct caching_answer caching_least_uploads_with(const uint8_t *prices, size_t prices_length, uint32_t upload, const uint8_t *log,
+                                                 size_t log_length, uint64_t *costs, size_t costs_length);
 
 /* value: the quote, which is at least the least cost and at most twice that. It is a sum: for each request the smaller of the transfer price and the hold
  * price times the seconds since its server's previous request (home has one at second 0), or the transfer price if there was none; and the hold price

@@ -12,14 +12,31 @@ use reference::calls::Calls;
 use reference::fast::{self, Fast};
 use reference::log::{Header, Log, Request};
 use reference::online::{Cache, Served};
-use reference::prices::{encode, Prices, HIGHEST};
+use reference::prices::{encode, Prices, Upload, HIGHEST};
 use reference::random::{random_requests, Random};
 use reference::Refusal;
 use std::hint::black_box;
 
 const REQUESTS: [usize; 4] = [0, 64, 512, 2_048];
 const SERVERS: [u8; 3] = [1, 8, 64];
-const CALLS: [&str; 11] = ["plan", "least", "quote", "check", "read", "write", "scan", "scan in place", "close", "sum", "sum by bytes"];
+const CALLS: [&str; 14] = [
+    "plan",
+    "plan with uploads",
+    "least",
+    "least with uploads",
+    "quote",
+    "check",
+    "check with uploads",
+    "read",
+    "write",
+    "scan",
+    "scan in place",
+    "close",
+    "sum",
+    "sum by bytes",
+];
+/// A little above the transfer price of class 1: plans have marks of all kinds.
+const UPLOAD: Upload = Some(28);
 const START: &str = "start with a file";
 const CLASSES: [usize; 3] = [1, 8, 256];
 const ROWS: [u32; 3] = [4_096, 100_000, 1_000_000];
@@ -162,22 +179,23 @@ fn used<T>(result: T) {
     let _ = black_box(result);
 }
 
-/// One log of the benchmark: its file, and the numbers of its plan's rows.
+/// One log of the benchmark, with an upload price or none: its file, and the numbers of its plan's rows.
 struct Case {
+    upload: Upload,
     log: Log,
     file: Vec<u8>,
     rows: Vec<u32>,
 }
 
-fn case(count: usize, server_count: u8) -> Case {
+fn case(upload: Upload, count: usize, server_count: u8) -> Case {
     let header = Header { class: 1, server_count, home: 0, id: [7; 16] };
     let mut random = Random::new(count as u64 * 100 + server_count as u64);
     let log = Log { header, requests: random_requests(&mut random, Prices::of(header.class), &header, count) };
     let file = log.bytes();
     let mut rows = vec![0; 8 * count];
-    let (_, number) = Fast::plan(None, &file, &mut vec![0; count], &mut rows).unwrap();
+    let (_, number) = Fast::plan(None, upload, &file, &mut vec![0; count], &mut rows).unwrap();
     rows.truncate(4 * number as usize);
-    Case { log, file, rows }
+    Case { upload, log, file, rows }
 }
 
 /// An output to lend. An empty one has memory too, as a caller's would.
@@ -219,37 +237,38 @@ fn sum_by_bytes(file: &[u8]) -> u32 {
 
 /// The times of one call on a case. Both give the same answer and the same outputs.
 fn measure(call: &str, case: &Case) -> Times {
-    let Case { log, file, rows } = case;
-    let count = log.requests.len();
+    let Case { upload, log, file, rows } = case;
+    let (upload, count) = (*upload, log.requests.len());
     match call {
-        "plan" => {
+        "plan" | "plan with uploads" => {
             let (mut marks_a, mut rows_a) = (output(count), output(rows.len()));
             let (mut marks_b, mut rows_b) = (output(count), output(rows.len()));
-            assert_eq!(Library::plan(None, file, &mut marks_a, &mut rows_a), Fast::plan(None, file, &mut marks_b, &mut rows_b));
+            let planned = Library::plan(None, upload, file, &mut marks_a, &mut rows_a);
+            assert_eq!(planned, Fast::plan(None, upload, file, &mut marks_b, &mut rows_b));
             assert_eq!((&marks_a, &rows_a), (&marks_b, &rows_b));
             times(
-                &mut || used(Library::plan(None, black_box(file), &mut marks_a, &mut rows_a)),
-                &mut || used(Fast::plan(None, black_box(file), &mut marks_b, &mut rows_b)),
+                &mut || used(Library::plan(None, upload, black_box(file), &mut marks_a, &mut rows_a)),
+                &mut || used(Fast::plan(None, upload, black_box(file), &mut marks_b, &mut rows_b)),
             )
         }
-        "least" => {
+        "least" | "least with uploads" => {
             let (mut costs_a, mut costs_b) = (output(count + 1), output(count + 1));
-            assert_eq!(Library::least(None, file, &mut costs_a), Fast::least(None, file, &mut costs_b));
+            assert_eq!(Library::least(None, upload, file, &mut costs_a), Fast::least(None, upload, file, &mut costs_b));
             assert_eq!(costs_a, costs_b);
             times(
-                &mut || used(Library::least(None, black_box(file), &mut costs_a)),
-                &mut || used(Fast::least(None, black_box(file), &mut costs_b)),
+                &mut || used(Library::least(None, upload, black_box(file), &mut costs_a)),
+                &mut || used(Fast::least(None, upload, black_box(file), &mut costs_b)),
             )
         }
         "quote" => {
             assert_eq!(Library::quote(None, file), Fast::quote(None, file));
             times(&mut || used(Library::quote(None, black_box(file))), &mut || used(Fast::quote(None, black_box(file))))
         }
-        "check" => {
-            assert_eq!(Library::check(None, file, rows), Fast::check(None, file, rows));
+        "check" | "check with uploads" => {
+            assert_eq!(Library::check(None, upload, file, rows), Fast::check(None, upload, file, rows));
             times(
-                &mut || used(Library::check(None, black_box(file), black_box(rows))),
-                &mut || used(Fast::check(None, black_box(file), black_box(rows))),
+                &mut || used(Library::check(None, upload, black_box(file), black_box(rows))),
+                &mut || used(Fast::check(None, upload, black_box(file), black_box(rows))),
             )
         }
         "read" => {
@@ -312,10 +331,14 @@ enum Schedule {
     Short,
     /// 64 servers: the last holds throughout; in each second a chain through all others, listed from its end.
     Chain,
+    /// 8 servers: no server holds, and each second a copy is uploaded to one.
+    Uploads,
+    /// 8 servers: every second second a copy is uploaded, sent on to two servers and held there for one second.
+    Fed,
 }
 
 impl Schedule {
-    const ALL: [Schedule; 4] = [Schedule::Each, Schedule::Back, Schedule::Short, Schedule::Chain];
+    const ALL: [Schedule; 6] = [Schedule::Each, Schedule::Back, Schedule::Short, Schedule::Chain, Schedule::Uploads, Schedule::Fed];
 
     fn name(self) -> &'static str {
         match self {
@@ -323,6 +346,15 @@ impl Schedule {
             Schedule::Back => "back and forth each second",
             Schedule::Short => "short holds at 7 servers",
             Schedule::Chain => "a chain through 64 servers",
+            Schedule::Uploads => "an upload each second",
+            Schedule::Fed => "uploads, sent on and held",
+        }
+    }
+
+    fn upload(self) -> Upload {
+        match self {
+            Schedule::Uploads | Schedule::Fed => UPLOAD,
+            _ => None,
         }
     }
 
@@ -358,6 +390,17 @@ impl Schedule {
                 numbers.extend((1..=last).flat_map(|second| (1..64).flat_map(move |source| [1, source, source - 1, second])));
                 (64, 63, last, numbers)
             }
+            Schedule::Uploads => (8, 0, rows, (1..=rows).flat_map(|second| [2, second % 8, second, 0]).collect()),
+            Schedule::Fed => {
+                let steps = rows / 5;
+                let mut numbers = Vec::new();
+                for server in 1..3 {
+                    numbers.extend((0..steps).flat_map(|k| [0, server, 2 * k, 2 * k + 1]));
+                }
+                numbers.extend((0..steps).flat_map(|k| [1, 1, 2, 2 * k, 1, 3, 1, 2 * k]));
+                numbers.extend((0..steps).flat_map(|k| [2, 3, 2 * k, 0]));
+                (8, 0, 2 * steps - 1, numbers)
+            }
         }
     }
 
@@ -370,6 +413,8 @@ impl Schedule {
             Schedule::Each | Schedule::Short => 0,
             Schedule::Back => (second % 2) as u16,
             Schedule::Chain => (second % 64) as u16,
+            Schedule::Uploads => (second % 8) as u16,
+            Schedule::Fed => 2,
         };
         let second = |i: u32| (last as u64 * i as u64 / count as u64) as u32;
         let requests = (1..=count).map(|i| Request { second: second(i), server: server(second(i)) }).collect();
@@ -380,14 +425,15 @@ impl Schedule {
 /// The checker on as many rows as a schedule may well have.
 fn check_rows(schedule: Schedule, rows: u32) -> Line {
     let (file, numbers) = schedule.case(rows);
-    let answer = Fast::check(None, &file, &numbers);
+    let upload = schedule.upload();
+    let answer = Fast::check(None, upload, &file, &numbers);
     assert!(answer.is_ok(), "{answer:?}");
-    assert_eq!(Library::check(None, &file, &numbers), answer);
+    assert_eq!(Library::check(None, upload, &file, &numbers), answer);
     let mut least = Times::NONE;
     for _ in 0..ROUNDS {
         least = least.min(times(
-            &mut || used(Library::check(None, black_box(&file), black_box(&numbers))),
-            &mut || used(Fast::check(None, black_box(&file), black_box(&numbers))),
+            &mut || used(Library::check(None, upload, black_box(&file), black_box(&numbers))),
+            &mut || used(Fast::check(None, upload, black_box(&file), black_box(&numbers))),
         ));
     }
     Line::new(schedule.name(), 0, numbers.len() as u32 / 4, least)
@@ -414,7 +460,8 @@ fn measured(wanted: &dyn Fn(&str) -> bool) -> Vec<Line> {
     for call in CALLS.into_iter().filter(|call| wanted(call)) {
         for server_count in SERVERS {
             for count in REQUESTS {
-                let case = case(count, server_count);
+                let upload = if call.ends_with("with uploads") { UPLOAD } else { None };
+                let case = case(upload, count, server_count);
                 let least = (0..ROUNDS).fold(Times::NONE, |least, _| least.min(measure(call, &case)));
                 lines.push(Line::new(call, server_count as u32, count as u32, least));
             }
@@ -448,7 +495,7 @@ fn gathered(words: &[String]) -> Vec<Line> {
     least
 }
 
-/// Names of calls on the command line choose these alone, `start with a file` in quotes, and `rows` the checker on many rows.
+/// Names of calls on the command line choose these alone, those of several words in quotes, and `rows` the checker on many rows.
 fn main() {
     let words: Vec<String> = std::env::args().skip(1).filter(|word| !word.starts_with('-')).collect();
     let wanted = |name: &str| words.is_empty() || words.iter().any(|word| word == name);
@@ -495,6 +542,7 @@ fn show_calls(lines: &[Line]) {
     println!("\n## Times of one call\n");
     println!("`scan` is a start and then a scan for each request, the state going in and coming back by value in both; `scan in place`");
     println!("has Rust change its state where it is; `close` closes the state after them all. Rust's `sum` takes four bytes at a time, its `sum by bytes` one.");
+    println!("With uploads there is an upload price of 28, where a transfer is 25 and a second's holding 1; `check` has the rows of the plan.");
     println!("Outputs are just as long as needed. Growth is against the line above. The last column is the ratio in each of {PROCESSES} processes.\n");
     println!("| call | servers | requests | library | growth | Rust | growth | library / Rust | range |");
     println!("|---|---:|---:|---:|---:|---:|---:|---:|---:|");
@@ -528,7 +576,7 @@ fn show_starts(lines: &[Line]) {
 
 fn show_rows(lines: &[Line]) {
     println!("\n## The checker on many rows\n");
-    println!("Schedules that are accepted, over logs of up to 2,048 requests. Growth is against the line above.\n");
+    println!("Schedules that are accepted, over logs of up to 2,048 requests; the last two with an upload price. Growth is against the line above.\n");
     println!("| schedule | rows | library | growth | Rust | growth | library / Rust | range |");
     println!("|---|---:|---:|---:|---:|---:|---:|---:|");
     for (i, line) in lines.iter().enumerate() {

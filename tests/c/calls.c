@@ -1,5 +1,5 @@
-/* Every call of include/caching.h once, on the week of document 01's case C, as C links it, a scan of another file, a write and a start of the class
- * that is no longer sold, then those with a price file; prints what each gives. */
+/* Every call of include/caching.h once, on the week of document 01's case C, as C links it, those with an upload price out of range too, a scan of
+ * another file, a write and a start of the class that is no longer sold, then those with a price file; prints what each gives. */
 #include "../../include/caching.h"
 #include <stdio.h>
 #include <string.h>
@@ -45,6 +45,23 @@ int main(void)
     say("least", caching_least(log, 64, costs, 5));
     for (int k = 0; k < 5; k++)
         printf("least %d: %llu\n", k, (unsigned long long)costs[k]);
+
+    plan = caching_plan_uploads(10, log, 64, marks, 4, rows, 32);
+    say("plan uploads", plan);
+    printf("marks: %.4s\n", (const char *)marks);
+    say("check uploads", caching_check_uploads(10, log, 64, rows, 4 * plan.more));
+    say("check uploads dearer", caching_check_uploads(1000000, log, 64, rows, 4 * plan.more));
+    say("check no uploads", caching_check(log, 64, rows, 4 * plan.more));
+    say("least uploads", caching_least_uploads(10, log, 64, costs, 5));
+    for (int k = 0; k < 5; k++)
+        printf("least %d: %llu\n", k, (unsigned long long)costs[k]);
+    say("plan uploads for 0", caching_plan_uploads(0, log, 64, marks, 4, rows, 32));
+    say("check uploads for 0", caching_check_uploads(0, log, 64, rows, 3));
+    say("least uploads for too much", caching_least_uploads(1000001, log, 64, costs, 5));
+    printf("as it was: %.4s %llu\n", (const char *)marks, (unsigned long long)costs[4]);
+    say("plan uploads nothing", caching_plan_uploads(0, NULL, 0, NULL, 0, NULL, 0));
+    say("check uploads nothing", caching_check_uploads(10, log, 64, NULL, 0));
+    say("least uploads short", caching_least_uploads(10, log, 64, NULL, 0));
 
     say("quote", caching_quote(log, 64));
     say("quote nothing", caching_quote(NULL, 0));
@@ -99,6 +116,17 @@ int main(void)
     for (int k = 0; k < 5; k++)
         printf("least %d: %llu\n", k, (unsigned long long)costs[k]);
     say("least with wrong", caching_least_with(wrong, 20, log, 64, costs, 5));
+    plan = caching_plan_uploads_with(prices, 20, 21, log, 64, marks, 4, rows, 32);
+    say("plan uploads with", plan);
+    printf("marks: %.4s\n", (const char *)marks);
+    say("plan uploads with wrong", caching_plan_uploads_with(wrong, 20, 0, log, 64, marks, 4, rows, 32));
+    say("check uploads with", caching_check_uploads_with(prices, 20, 21, log, 64, rows, 4 * plan.more));
+    say("check uploads with for 0", caching_check_uploads_with(prices, 20, 0, log, 64, rows, 4 * plan.more));
+    say("check uploads with nothing", caching_check_uploads_with(NULL, 0, 21, log, 64, rows, 4 * plan.more));
+    say("least uploads with", caching_least_uploads_with(prices, 20, 21, log, 64, costs, 5));
+    for (int k = 0; k < 5; k++)
+        printf("least %d: %llu\n", k, (unsigned long long)costs[k]);
+    say("least uploads with wrong", caching_least_uploads_with(wrong, 20, 21, log, 64, costs, 5));
     say("quote with", caching_quote_with(prices, 20, log, 64));
     say("quote with wrong", caching_quote_with(wrong, 20, log, 64));
     say("quote with nothing", caching_quote_with(NULL, 0, log, 64));

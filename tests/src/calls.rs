@@ -5,10 +5,11 @@ use crate::checker::{self, flat};
 use crate::log::{self, Header, Log};
 use crate::online::{self, Cache, Served};
 use crate::planner::{self, letter};
-use crate::prices::{PriceFile, Prices, Table};
+use crate::prices::{check_upload, PriceFile, Prices, Table, Upload};
 use crate::{quote, refuse, Refusal};
 
-/// An implementation of the public calls. Those that need prices take a price file or none, and judge it at each call.
+/// An implementation of the public calls. Those that need prices take a price file or none, and judge it at each call; those about schedules take an
+/// upload price or none, and judge that after the log.
 pub trait Calls {
     fn sum(file: &[u8]) -> u32;
 
@@ -19,13 +20,13 @@ pub trait Calls {
     fn write(prices: PriceFile, header: &Header, seconds: &[u32], servers: &[u16], out: &mut [u8]) -> Result<u64, Refusal>;
 
     /// The cost of the rows.
-    fn check(prices: PriceFile, file: &[u8], rows: &[u32]) -> Result<u64, Refusal>;
+    fn check(prices: PriceFile, upload: Upload, file: &[u8], rows: &[u32]) -> Result<u64, Refusal>;
 
     /// The cost and the number of rows.
-    fn plan(prices: PriceFile, file: &[u8], marks: &mut [u8], rows: &mut [u32]) -> Result<(u64, u32), Refusal>;
+    fn plan(prices: PriceFile, upload: Upload, file: &[u8], marks: &mut [u8], rows: &mut [u32]) -> Result<(u64, u32), Refusal>;
 
     /// The number of least costs: one for none, one, .. and all requests.
-    fn least(prices: PriceFile, file: &[u8], costs: &mut [u64]) -> Result<u32, Refusal>;
+    fn least(prices: PriceFile, upload: Upload, file: &[u8], costs: &mut [u64]) -> Result<u32, Refusal>;
 
     /// The quote.
     fn quote(prices: PriceFile, file: &[u8]) -> Result<u64, Refusal>;
@@ -93,14 +94,16 @@ impl Calls for Simple {
         Ok(file.len() as u64)
     }
 
-    fn check(prices: PriceFile, file: &[u8], rows: &[u32]) -> Result<u64, Refusal> {
+    fn check(prices: PriceFile, upload: Upload, file: &[u8], rows: &[u32]) -> Result<u64, Refusal> {
         let (prices, log) = accepted(prices, file)?;
-        checker::check(prices, &log, rows)
+        check_upload(upload)?;
+        checker::check(prices, upload, &log, rows)
     }
 
-    fn plan(prices: PriceFile, file: &[u8], marks: &mut [u8], rows: &mut [u32]) -> Result<(u64, u32), Refusal> {
+    fn plan(prices: PriceFile, upload: Upload, file: &[u8], marks: &mut [u8], rows: &mut [u32]) -> Result<(u64, u32), Refusal> {
         let (prices, log) = accepted(prices, file)?;
-        let plan = planner::plan(prices, &log);
+        check_upload(upload)?;
+        let plan = planner::plan(prices, upload, &log);
         check_room(marks.len(), plan.marks.len())?;
         check_room(rows.len(), 4 * plan.rows.len())?;
         put(marks, &plan.marks.iter().map(|&mark| letter(mark)).collect::<Vec<_>>());
@@ -108,9 +111,10 @@ impl Calls for Simple {
         Ok((plan.cost, plan.rows.len() as u32))
     }
 
-    fn least(prices: PriceFile, file: &[u8], costs: &mut [u64]) -> Result<u32, Refusal> {
+    fn least(prices: PriceFile, upload: Upload, file: &[u8], costs: &mut [u64]) -> Result<u32, Refusal> {
         let (prices, log) = accepted(prices, file)?;
-        let least = planner::least(prices, &log);
+        check_upload(upload)?;
+        let least = planner::least(prices, upload, &log);
         check_room(costs.len(), least.len())?;
         put(costs, &least);
         Ok(least.len() as u32)

@@ -1,7 +1,7 @@
-//! 01, 'Schedules', and the refusals 14 to 18.
+//! 01, 'Schedules', and the refusals 14 to 18, with the uploads of 02's request 11.
 
 use crate::log::Log;
-use crate::prices::Prices;
+use crate::prices::{Prices, Upload};
 use crate::{refuse, Refusal};
 use std::collections::{BTreeSet, HashMap};
 
@@ -11,6 +11,7 @@ pub enum Row {
     Hold { server: u32, from: u32, to: u32 },
     /// 01: send
     Transfer { source: u32, target: u32, second: u32 },
+    Upload { target: u32, second: u32 },
 }
 
 impl Row {
@@ -18,38 +19,34 @@ impl Row {
         match self {
             Row::Hold { server, from, to } => [0, server, from, to],
             Row::Transfer { source, target, second } => [1, source, target, second],
+            Row::Upload { target, second } => [2, target, second, 0],
         }
     }
 
-    /// The row of four numbers, or none: 15 by kind, server, span, transfer to itself, or past the last request.
-    fn of(numbers: [u32; 4], log: &Log) -> Option<Row> {
+    /// The row of four numbers, or none: 15 by kind, server, span, transfer to itself, an upload's last number, or past the last request. Without an
+    /// upload price there is no kind 2.
+    fn of(upload: Upload, log: &Log, numbers: [u32; 4]) -> Option<Row> {
         let count = log.header.server_count as u32;
         let last = log.requests.last()?.second;
         let [kind, a, b, c] = numbers;
-        let fine = match kind {
-            0 => a < count && b < c && c <= last,
-            1 => a < count && b < count && a != b && c <= last,
-            _ => false,
-        };
-        if !fine {
-            return None;
+        match kind {
+            0 if a < count && b < c && c <= last => Some(Row::Hold { server: a, from: b, to: c }),
+            1 if a < count && b < count && a != b && c <= last => Some(Row::Transfer { source: a, target: b, second: c }),
+            2 if upload.is_some() && a < count && b <= last && c == 0 => Some(Row::Upload { target: a, second: b }),
+            _ => None,
         }
-        Some(if kind == 0 {
-            Row::Hold { server: a, from: b, to: c }
-        } else {
-            Row::Transfer { source: a, target: b, second: c }
-        })
     }
 
     /// May this row stand anywhere before the other?
     fn may_precede(self, other: Row) -> bool {
         match (self, other) {
-            (Row::Hold { .. }, Row::Transfer { .. }) => true,
-            (Row::Transfer { .. }, Row::Hold { .. }) => false,
             (Row::Hold { server, to, .. }, Row::Hold { server: other, from, .. }) => server < other || (server == other && to < from),
             (Row::Transfer { source, target, second }, Row::Transfer { source: a, target: b, second: c }) => {
                 (second, source, target) < (c, a, b)
             }
+            (Row::Upload { target, second }, Row::Upload { target: a, second: b }) => (second, target) < (b, a),
+            // holds come first, then transfers, then uploads
+            _ => self.numbers()[0] < other.numbers()[0],
         }
     }
 }
@@ -59,12 +56,13 @@ pub fn flat(rows: &[Row]) -> Vec<u32> {
     rows.iter().flat_map(|row| row.numbers()).collect()
 }
 
-/// Hold price × seconds of all holds, plus transfer price × transfers.
-pub fn cost_of(prices: Prices, rows: &[Row]) -> u64 {
+/// Hold price × seconds of all holds, plus transfer price × transfers, plus upload price × uploads.
+pub fn cost_of(prices: Prices, upload: Upload, rows: &[Row]) -> u64 {
     rows.iter()
         .map(|row| match row {
             Row::Hold { from, to, .. } => prices.cost((to - from) as u64, 0),
             Row::Transfer { .. } => prices.cost(0, 1),
+            Row::Upload { .. } => upload.unwrap() as u64,
         })
         .sum()
 }
@@ -76,11 +74,11 @@ fn standing(home: u32, rows: &[Row], t: u32) -> BTreeSet<u32> {
         servers.insert(home);
     }
     for row in rows {
-        if let Row::Hold { server, from, to } = *row {
-            if from < t && t <= to {
-                servers.insert(server);
-            }
-        }
+        match *row {
+            Row::Hold { server, from, to } if from < t && t <= to => servers.insert(server),
+            Row::Upload { target, second } if second == t => servers.insert(target),
+            _ => false,
+        };
     }
     loop {
         let before = servers.len();
@@ -98,13 +96,13 @@ fn standing(home: u32, rows: &[Row], t: u32) -> BTreeSet<u32> {
 }
 
 /// The rows that some numbers stand for, or the first of 14 to 16.
-pub fn rows_of(log: &Log, numbers: &[u32]) -> Result<Vec<Row>, Refusal> {
+pub fn rows_of(upload: Upload, log: &Log, numbers: &[u32]) -> Result<Vec<Row>, Refusal> {
     if numbers.len() % 4 != 0 {
         return refuse(14, 0);
     }
     let mut rows: Vec<Row> = Vec::new();
     for (i, four) in numbers.chunks(4).enumerate() {
-        let Some(row) = Row::of(four.try_into().unwrap(), log) else {
+        let Some(row) = Row::of(upload, log, four.try_into().unwrap()) else {
             return refuse(15, i + 1);
         };
         if !rows.iter().all(|earlier| earlier.may_precede(row)) {
@@ -116,8 +114,8 @@ pub fn rows_of(log: &Log, numbers: &[u32]) -> Result<Vec<Row>, Refusal> {
 }
 
 /// The cost of a schedule for an accepted log, or the first of 14 to 18.
-pub fn check(prices: Prices, log: &Log, numbers: &[u32]) -> Result<u64, Refusal> {
-    let rows = rows_of(log, numbers)?;
+pub fn check(prices: Prices, upload: Upload, log: &Log, numbers: &[u32]) -> Result<u64, Refusal> {
+    let rows = rows_of(upload, log, numbers)?;
     let mut known: HashMap<u32, BTreeSet<u32>> = HashMap::new();
     let mut stands = |server: u32, t: u32| {
         let servers = known.entry(t).or_insert_with(|| standing(log.header.home as u32, &rows, t));
@@ -127,6 +125,7 @@ pub fn check(prices: Prices, log: &Log, numbers: &[u32]) -> Result<u64, Refusal>
         let (server, second) = match *row {
             Row::Hold { server, from, .. } => (server, from),
             Row::Transfer { source, second, .. } => (source, second),
+            Row::Upload { .. } => continue,
         };
         if !stands(server, second) {
             return refuse(17, i + 1);
@@ -137,7 +136,7 @@ pub fn check(prices: Prices, log: &Log, numbers: &[u32]) -> Result<u64, Refusal>
             return refuse(18, i + 1);
         }
     }
-    Ok(cost_of(prices, &rows))
+    Ok(cost_of(prices, upload, &rows))
 }
 
 #[cfg(test)]
@@ -151,13 +150,18 @@ mod tests {
     }
 
     fn verdict(log: &Log, rows: &[[u32; 4]]) -> Result<u64, Refusal> {
-        check(Prices::of(0), log, &rows.concat())
+        check(Prices::of(0), None, log, &rows.concat())
+    }
+
+    /// The same where an upload costs 4.
+    fn with_uploads(log: &Log, rows: &[[u32; 4]]) -> Result<u64, Refusal> {
+        check(Prices::of(0), Some(4), log, &rows.concat())
     }
 
     #[test]
     fn form() {
         let week = log(3, &[(5, 1), (9, 1)]);
-        assert_eq!(check(Prices::of(0), &week, &[0; 5]), refuse(14, 0));
+        assert_eq!(check(Prices::of(0), None, &week, &[0; 5]), refuse(14, 0));
         for row in [[2, 0, 0, 5], [0, 3, 0, 5], [0, 0, 5, 5], [0, 0, 0, 10], [1, 1, 1, 5], [1, 3, 1, 5], [1, 0, 3, 5], [1, 0, 1, 10]] {
             assert_eq!(verdict(&week, &[row]), refuse(15, 1), "{row:?}");
         }
@@ -205,5 +209,35 @@ mod tests {
         assert_eq!(verdict(&week, &[[0, 0, 0, 3]]), refuse(18, 2));
         assert_eq!(verdict(&week, &[[0, 0, 0, 4], [1, 0, 1, 4]]), Ok(14));
         assert_eq!(verdict(&week, &[[0, 0, 0, 3], [1, 0, 1, 3]]), refuse(18, 2));
+    }
+
+    #[test]
+    fn form_of_uploads() {
+        let week = log(3, &[(5, 1), (9, 1)]);
+        let served = [[2, 1, 5, 0], [2, 1, 9, 0]];
+        assert_eq!(with_uploads(&week, &served), Ok(8));
+        assert_eq!(verdict(&week, &served), refuse(15, 1));
+        for row in [[2, 3, 5, 0], [2, 1, 10, 0], [2, 1, 5, 1], [3, 1, 5, 0]] {
+            assert_eq!(with_uploads(&week, &[row]), refuse(15, 1), "{row:?}");
+        }
+        assert_eq!(with_uploads(&week, &[[2, 1, 5, 0], [2, 1, 5, 0]]), refuse(16, 2));
+        assert_eq!(with_uploads(&week, &[[2, 1, 9, 0], [2, 2, 5, 0]]), refuse(16, 2));
+        assert_eq!(with_uploads(&week, &[[2, 1, 5, 0], [2, 0, 5, 0]]), refuse(16, 2));
+        assert_eq!(with_uploads(&week, &[[2, 1, 5, 0], [1, 1, 0, 9]]), refuse(16, 2));
+        assert_eq!(with_uploads(&week, &[[2, 1, 5, 0], [0, 1, 5, 9]]), refuse(16, 2));
+    }
+
+    #[test]
+    fn an_upload_makes_a_copy_stand() {
+        let week = log(3, &[(5, 1), (9, 2)]);
+        // for a hold, for a transfer of its second though listed after it, and at second 0
+        assert_eq!(with_uploads(&week, &[[0, 1, 5, 9], [1, 1, 2, 9], [2, 1, 5, 0]]), Ok(4 + 10 + 4));
+        assert_eq!(with_uploads(&week, &[[1, 0, 1, 5], [2, 0, 5, 0], [2, 2, 9, 0]]), Ok(10 + 8));
+        assert_eq!(with_uploads(&week, &[[0, 1, 0, 9], [1, 1, 2, 9], [2, 1, 0, 0]]), Ok(9 + 10 + 4));
+        // in that second alone
+        assert_eq!(with_uploads(&week, &[[0, 1, 6, 9], [2, 1, 5, 0], [2, 2, 9, 0]]), refuse(17, 1));
+        assert_eq!(with_uploads(&week, &[[1, 1, 2, 9], [2, 1, 5, 0], [2, 2, 8, 0]]), refuse(17, 1));
+        assert_eq!(with_uploads(&week, &[[2, 1, 5, 0], [2, 2, 8, 0]]), refuse(18, 2));
+        assert_eq!(with_uploads(&log(3, &[]), &[[2, 0, 0, 0]]), refuse(15, 1));
     }
 }

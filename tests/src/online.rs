@@ -312,7 +312,7 @@ mod tests {
             assert_eq!(closing, history.closing_cost(prices), "{prices:?} {header:?} {requests:?}");
             let state = History { marks, transfers: cache.transfers, held: cache.held, standing: cache.holders, left: history.left };
             assert_eq!(state, history, "{prices:?} {header:?} {requests:?}");
-            let least = planner::plan(prices, &Log { header, requests }).cost;
+            let least = planner::plan(prices, None, &Log { header, requests }).cost;
             let running = cache.running().unwrap();
             assert!(least <= running && running <= 3 * least);
             assert!(running <= closing && closing <= 3 * least + prices.transfer as u64);

@@ -1,14 +1,16 @@
-//! 01, 'The plan', with the source of 02's request 03. The marks come from a plain dynamic program, or for few requests from trying all of them.
+//! 01, 'The plan', with the source of 02's request 03 and the uploads of its request 11. The marks come from a plain dynamic program, or for few
+//! requests from trying all of them.
 
 use crate::checker::{cost_of, Row};
 use crate::log::Log;
-use crate::prices::Prices;
+use crate::prices::{Prices, Upload};
 use std::collections::BTreeSet;
 
 #[derive(Clone, Copy, Debug, PartialEq, Eq)]
 pub enum Mark {
     K,
     S,
+    U,
 }
 
 #[derive(Clone, Debug, PartialEq, Eq)]
@@ -51,7 +53,7 @@ impl Points {
         (self.second[to] - self.second[from]) as u64
     }
 
-    /// The servers that hold over each gap, gap i lying between points i - 1 and i. (There is no gap 0.)
+    /// The servers that hold over each gap, gap i lying between points i - 1 and i; before a U there may be none. (There is no gap 0.)
     fn holders(&self, marks: &[Mark]) -> Vec<BTreeSet<u32>> {
         let mut holders = vec![BTreeSet::new(); self.server.len()];
         for (i, mark) in (1..).zip(marks) {
@@ -62,14 +64,14 @@ impl Points {
             }
         }
         for gap in 1..holders.len() {
-            if holders[gap].is_empty() {
+            if holders[gap].is_empty() && marks[gap - 1] != Mark::U {
                 holders[gap].insert(self.server[gap - 1]);
             }
         }
         holders
     }
 
-    /// The rows of a marking: each server's runs of gaps as holds, then the transfers.
+    /// The rows of a marking: each server's runs of gaps as holds, then the transfers, then the uploads.
     fn rows(&self, marks: &[Mark]) -> Vec<Row> {
         let holders = self.holders(marks);
         let mut rows = Vec::new();
@@ -93,6 +95,11 @@ impl Points {
                 rows.push(Row::Transfer { source: nearest(&holders[i], target), target, second: self.second[i] });
             }
         }
+        for (i, mark) in (1..).zip(marks) {
+            if *mark == Mark::U {
+                rows.push(Row::Upload { target: self.server[i], second: self.second[i] });
+            }
+        }
         rows
     }
 }
@@ -104,11 +111,15 @@ pub fn nearest(servers: &BTreeSet<u32>, target: u32) -> u32 {
 
 /// `costs[i][r]`: the least cost of requests 1 to i and of the gaps up to them, where the K spans of later
 /// requests cover all gaps after point r. With r = i they cover none of these gaps.
-fn table(prices: Prices, points: &Points) -> Vec<Vec<u64>> {
+fn table(prices: Prices, upload: Upload, points: &Points) -> Vec<Vec<u64>> {
     let mut costs = vec![vec![0]];
     for i in 1..points.server.len() {
         let before = &costs[i - 1];
-        let row = (0..=i).map(|r| keep_cost(prices, points, before, i, r).min(send_cost(prices, points, before, i, r))).collect();
+        let least = |r| {
+            let (keep, send) = (keep_cost(prices, points, before, i, r), send_cost(prices, points, before, i, r));
+            keep.min(send).min(upload_cost(upload, before, i, r))
+        };
+        let row = (0..=i).map(least).collect();
         costs.push(row);
     }
     costs
@@ -133,54 +144,69 @@ fn send_cost(prices: Prices, points: &Points, before: &[u64], i: usize, r: usize
     before[r.min(i - 1)] + prices.cost(gap, 1)
 }
 
-/// The plan: from the last request back, K where the least cost can be had with it.
-pub fn plan(prices: Prices, log: &Log) -> Plan {
+/// The same with request i marked U.
+fn upload_cost(upload: Upload, before: &[u64], i: usize, r: usize) -> u64 {
+    match upload {
+        Some(price) => before[r.min(i - 1)] + price as u64,
+        None => NEVER,
+    }
+}
+
+/// The plan: from the last request back, K where the least cost can be had with it, else S where it can, else U.
+pub fn plan(prices: Prices, upload: Upload, log: &Log) -> Plan {
     let points = points(log);
-    let costs = table(prices, &points);
+    let costs = table(prices, upload, &points);
     let n = log.requests.len();
-    let mut marks = vec![Mark::S; n];
+    let mut marks = vec![Mark::U; n];
     let mut r = n;
     for i in (1..=n).rev() {
         r = r.min(i);
         if keep_cost(prices, &points, &costs[i - 1], i, r) == costs[i][r] {
             marks[i - 1] = Mark::K;
             r = r.min(points.previous[i].unwrap());
+        } else if send_cost(prices, &points, &costs[i - 1], i, r) == costs[i][r] {
+            marks[i - 1] = Mark::S;
         }
     }
     let rows = points.rows(&marks);
-    Plan { cost: cost_of(prices, &rows), marks, rows }
+    Plan { cost: cost_of(prices, upload, &rows), marks, rows }
 }
 
 /// The least cost of the first 0, 1, .. and all requests.
-pub fn least(prices: Prices, log: &Log) -> Vec<u64> {
-    let costs = table(prices, &points(log));
+pub fn least(prices: Prices, upload: Upload, log: &Log) -> Vec<u64> {
+    let costs = table(prices, upload, &points(log));
     (0..costs.len()).map(|i| costs[i][i]).collect()
 }
 
-/// All allowed markings; of two, the one with K at the latest request where they differ comes first.
-pub fn all_markings(prices: Prices, log: &Log) -> Vec<Plan> {
+/// All allowed markings; of two, at the latest request where they differ K comes before S, and S before U.
+pub fn all_markings(prices: Prices, upload: Upload, log: &Log) -> Vec<Plan> {
     let points = points(log);
-    let n = log.requests.len();
-    let mut plans = Vec::new();
-    // request i is S where bit i - 1 of the number is set
-    for number in 0..1u64 << n {
-        let marks: Vec<Mark> = (0..n).map(|i| if number >> i & 1 == 1 { Mark::S } else { Mark::K }).collect();
-        let allowed = (1..).zip(&marks).all(|(i, mark)| match mark {
-            Mark::K => points.may_keep(i),
-            Mark::S => points.may_send(i),
-        });
-        if allowed {
-            let rows = points.rows(&marks);
-            plans.push(Plan { cost: cost_of(prices, &rows), marks, rows });
+    let mut markings = vec![vec![]];
+    for i in 1..points.server.len() {
+        let mut longer = Vec::new();
+        for mark in [Mark::K, Mark::S, Mark::U] {
+            let allowed = match mark {
+                Mark::K => points.may_keep(i),
+                Mark::S => points.may_send(i),
+                Mark::U => upload.is_some(),
+            };
+            if allowed {
+                longer.extend(markings.iter().map(|marks: &Vec<Mark>| [&marks[..], &[mark]].concat()));
+            }
         }
+        markings = longer;
     }
-    plans
+    let plan = |marks: Vec<Mark>| {
+        let rows = points.rows(&marks);
+        Plan { cost: cost_of(prices, upload, &rows), marks, rows }
+    };
+    markings.into_iter().map(plan).collect()
 }
 
 /// The plan by trying all of them.
-pub fn plan_by_all_markings(prices: Prices, log: &Log) -> Plan {
+pub fn plan_by_all_markings(prices: Prices, upload: Upload, log: &Log) -> Plan {
     // of equals, `min_by_key` takes the first
-    all_markings(prices, log).into_iter().min_by_key(|plan| plan.cost).unwrap()
+    all_markings(prices, upload, log).into_iter().min_by_key(|plan| plan.cost).unwrap()
 }
 
 /// A mark as one ASCII letter.
@@ -188,6 +214,7 @@ pub fn letter(mark: Mark) -> u8 {
     match mark {
         Mark::K => b'K',
         Mark::S => b'S',
+        Mark::U => b'U',
     }
 }
 
@@ -196,12 +223,12 @@ mod tests {
     use super::*;
     use crate::checker::{check, flat};
     use crate::log::{Header, Request};
-    use crate::prices::each_class;
-    use crate::random::{random_header, random_log, random_requests, random_table, Random};
+    use crate::prices::{each_class, upload_edges};
+    use crate::random::{no_upload, random_header, random_log, random_requests, random_table, random_upload, Random};
     use crate::search::{lists_of_gaps, least_by_sets};
 
-    #[test]
-    fn equals_all_markings_on_every_small_log() {
+    /// All logs of at most `most` requests at up to three servers whose gaps are 1, the window and the window and one more, for every class.
+    fn small_logs(most: usize, mut each: impl FnMut(Prices, &Log)) {
         for (table, class) in each_class() {
             let prices = table.of(class);
             let window = prices.window() as u32;
@@ -209,29 +236,69 @@ mod tests {
             gaps.dedup();
             for server_count in 1..=3 {
                 let header = Header { class, server_count, home: 0, id: [0; 16] };
-                for requests in lists_of_gaps(server_count, &gaps, 4) {
-                    agrees(prices, &Log { header, requests });
+                for requests in lists_of_gaps(server_count, &gaps, most) {
+                    each(prices, &Log { header, requests });
                 }
             }
         }
     }
 
     #[test]
+    fn equals_all_markings_on_every_small_log() {
+        small_logs(4, |prices, log| agrees(prices, None, log));
+        small_logs(3, |prices, log| upload_edges(prices).into_iter().for_each(|price| agrees(prices, Some(price), log)));
+    }
+
+    #[test]
     fn equals_all_markings_on_random_logs() {
         let mut random = Random::new(3);
-        for _ in 0..3_000 {
-            let table = random_table(&mut random);
-            let log = random_log(&mut random, &table, 9);
-            agrees(table.of(log.header.class), &log);
+        for (most, uploads) in [(9, no_upload as fn(&mut Random, Prices) -> Upload), (7, random_upload)] {
+            for _ in 0..3_000 {
+                let table = random_table(&mut random);
+                let log = random_log(&mut random, &table, most);
+                let prices = table.of(log.header.class);
+                agrees(prices, uploads(&mut random, prices), &log);
+            }
         }
     }
 
-    fn agrees(prices: Prices, log: &Log) {
-        let plan = plan(prices, log);
-        assert_eq!(plan, plan_by_all_markings(prices, log), "{prices:?} {log:?}");
-        let costs: Vec<u64> = (0..=log.requests.len()).map(|k| plan_by_all_markings(prices, &log.cut(k)).cost).collect();
-        assert_eq!(least(prices, log), costs, "{prices:?} {log:?}");
-        assert_eq!(check(prices, log, &flat(&plan.rows)), Ok(plan.cost), "{prices:?} {log:?}");
+    fn agrees(prices: Prices, upload: Upload, log: &Log) {
+        let plan = plan(prices, upload, log);
+        assert_eq!(plan, plan_by_all_markings(prices, upload, log), "{prices:?} {upload:?} {log:?}");
+        let costs: Vec<u64> = (0..=log.requests.len()).map(|k| plan_by_all_markings(prices, upload, &log.cut(k)).cost).collect();
+        assert_eq!(least(prices, upload, log), costs, "{prices:?} {upload:?} {log:?}");
+        assert_eq!(check(prices, upload, log, &flat(&plan.rows)), Ok(plan.cost), "{prices:?} {upload:?} {log:?}");
+        assert!(plan.rows.len() <= 2 * log.requests.len());
+    }
+
+    /// What the marks come to one by one: a K its span, an S a transfer and the gap before it where no K covers that, a U an upload.
+    fn cost_by_marks(prices: Prices, upload: Upload, log: &Log, marks: &[Mark]) -> u64 {
+        let points = points(log);
+        let covered = |gap: usize| (gap..=marks.len()).any(|i| marks[i - 1] == Mark::K && points.previous[i].unwrap() < gap);
+        let cost = |i: usize| match marks[i - 1] {
+            Mark::K => prices.cost(points.seconds(points.previous[i].unwrap(), i), 0),
+            Mark::S if covered(i) => prices.cost(0, 1),
+            Mark::S => prices.cost(points.seconds(i - 1, i), 1),
+            Mark::U => upload.unwrap() as u64,
+        };
+        (1..=marks.len()).map(cost).sum()
+    }
+
+    #[test]
+    fn each_marking_is_feasible_at_the_cost_of_its_marks() {
+        let mut random = Random::new(6);
+        for _ in 0..200 {
+            let table = random_table(&mut random);
+            let log = random_log(&mut random, &table, 6);
+            let prices = table.of(log.header.class);
+            for upload in [None, random_upload(&mut random, prices)] {
+                for plan in all_markings(prices, upload, &log) {
+                    assert_eq!(check(prices, upload, &log, &flat(&plan.rows)), Ok(plan.cost), "{log:?} {plan:?}");
+                    assert_eq!(cost_by_marks(prices, upload, &log, &plan.marks), plan.cost, "{log:?} {plan:?}");
+                    assert!(plan.rows.len() <= 2 * log.requests.len());
+                }
+            }
+        }
     }
 
     #[test]
@@ -246,7 +313,9 @@ mod tests {
             let count = random.below(9) as usize;
             let log = Log { header, requests: random_requests(&mut random, prices, &header, count) };
             if log.last_second() <= 300 {
-                assert_eq!(plan(prices, &log).cost, least_by_sets(prices, &log), "{prices:?} {log:?}");
+                for upload in [None, random_upload(&mut random, prices)] {
+                    assert_eq!(plan(prices, upload, &log).cost, least_by_sets(prices, upload, &log), "{prices:?} {upload:?} {log:?}");
+                }
             }
         }
     }
@@ -258,10 +327,12 @@ mod tests {
             let table = random_table(&mut random);
             let log = random_log(&mut random, &table, 400);
             let prices = table.of(log.header.class);
-            let plan = plan(prices, &log);
-            assert_eq!(check(prices, &log, &flat(&plan.rows)), Ok(plan.cost));
-            assert_eq!(least(prices, &log).last(), Some(&plan.cost));
-            assert!(plan.rows.len() <= 4096);
+            for upload in [None, random_upload(&mut random, prices)] {
+                let plan = plan(prices, upload, &log);
+                assert_eq!(check(prices, upload, &log, &flat(&plan.rows)), Ok(plan.cost));
+                assert_eq!(least(prices, upload, &log).last(), Some(&plan.cost));
+                assert!(plan.rows.len() <= 2 * log.requests.len());
+            }
         }
     }
 
@@ -270,7 +341,7 @@ mod tests {
         // 002's recurrence would take K at the last request
         let header = Header { class: 0, server_count: 2, home: 0, id: [0; 16] };
         let requests = [(1, 1), (12, 1), (13, 0)].map(|(second, server)| Request { second, server }).to_vec();
-        let plan = plan(Prices::of(0), &Log { header, requests });
+        let plan = plan(Prices::of(0), None, &Log { header, requests });
         assert_eq!((plan.marks, plan.cost), (vec![Mark::S, Mark::K, Mark::S], 33));
     }
 }

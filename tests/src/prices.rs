@@ -1,4 +1,5 @@
-//! 01, 'Prices', and 02's requests 05 and 10: price files with the refusals 37 and 38, and the class that is no longer sold.
+//! 01, 'Prices', and 02's requests 05, 10 and 11: price files with the refusals 37 and 38, the class that is no longer sold, and the upload price
+//! with 44.
 
 use crate::log::{number16, number32};
 use crate::{refuse, Refusal};
@@ -50,6 +51,27 @@ impl Prices {
     pub fn cost(self, held: u64, transfers: u64) -> u64 {
         self.hold as u64 * held + self.transfer as u64 * transfers
     }
+}
+
+/// The price of an upload, or none where nothing can be uploaded.
+pub type Upload = Option<u32>;
+
+/// 44: an upload price that is not from 1 to 1,000,000.
+pub fn check_upload(upload: Upload) -> Result<(), Refusal> {
+    match upload {
+        Some(price) if !(1..=HIGHEST).contains(&price) => refuse(44, 0),
+        _ => Ok(()),
+    }
+}
+
+/// Upload prices to try beside a class's own: the lowest, about a transfer, about a transfer and a second's holding, and the highest.
+pub fn upload_edges(prices: Prices) -> Vec<u32> {
+    let bare = prices.transfer + prices.hold;
+    let mut edges = vec![1, prices.transfer - 1, prices.transfer, prices.transfer + 1, bare - 1, bare, bare + 1, HIGHEST];
+    edges.retain(|price| (1..=HIGHEST).contains(price));
+    edges.sort();
+    edges.dedup();
+    edges
 }
 
 /// The prices of each class: the built-in table, or that of a price file.
@@ -149,6 +171,20 @@ mod tests {
         assert_eq!((table.classes(), table.file()), (2, Some(&file[..])));
         assert_eq!(table.of(0), Prices { hold: 0x020304, transfer: 7 });
         assert_eq!(table.of(1), Prices { hold: 1, transfer: 1_000_000 });
+    }
+
+    #[test]
+    fn upload_prices() {
+        for price in [1, 2, HIGHEST - 1, HIGHEST] {
+            assert_eq!(check_upload(Some(price)), Ok(()));
+        }
+        for price in [0, HIGHEST + 1, 1 << 31, u32::MAX] {
+            assert_eq!(check_upload(Some(price)), refuse(44, 0));
+        }
+        assert_eq!(check_upload(None), Ok(()));
+        assert_eq!(upload_edges(Prices { hold: 3, transfer: 30 }), [1, 29, 30, 31, 32, 33, 34, HIGHEST]);
+        assert_eq!(upload_edges(Prices { hold: HIGHEST, transfer: 1 }), [1, 2, HIGHEST]);
+        assert_eq!(upload_edges(Prices { hold: 1, transfer: HIGHEST }), [1, HIGHEST - 1, HIGHEST]);
     }
 
     fn refusal(file: &[u8]) -> Option<(u8, u64)> {

@@ -1,7 +1,7 @@
 //! Seeded random inputs, valid and damaged.
 
 use crate::log::{sum, Header, Log, Request, LAST_SECOND, MOST_REQUESTS};
-use crate::prices::{encode, Prices, Table, HIGHEST, MOST_CLASSES};
+use crate::prices::{encode, Prices, Table, Upload, HIGHEST, MOST_CLASSES};
 
 /// The generator of Steele, Lea and Flood, "Fast splittable pseudorandom number generators" (SplitMix64).
 pub struct Random {
@@ -97,6 +97,32 @@ pub fn random_table(random: &mut Random) -> Table {
         return Table::built_in();
     }
     random_prices(random)
+}
+
+/// Whence an upload price, or none, for a log's prices.
+pub type Uploads = fn(&mut Random, Prices) -> Upload;
+
+pub fn no_upload(_: &mut Random, _: Prices) -> Upload {
+    None
+}
+
+/// An upload price: about a transfer, about some seconds of holding, about both together, below a transfer, at a bound, or any.
+pub fn random_upload(random: &mut Random, prices: Prices) -> Upload {
+    let (transfer, held) = (prices.transfer as u64, prices.cost(random.between(1, 12), 0));
+    let price = match random.below(8) {
+        0 | 1 => transfer + random.between(0, 2) - 1,
+        2 => held + random.between(0, 2) - 1,
+        3 | 4 => transfer + held + random.between(0, 2) - 1,
+        5 => random.between(1, transfer),
+        6 => random.one_of(&[1, 2, HIGHEST as u64 - 1, HIGHEST as u64]),
+        _ => random.between(1, HIGHEST as u64),
+    };
+    Some(price.clamp(1, HIGHEST as u64) as u32)
+}
+
+/// An upload price that is refused.
+pub fn wrong_upload(random: &mut Random) -> Upload {
+    Some(random.one_of(&[0, HIGHEST + 1, 2 * HIGHEST, 1 << 31, u32::MAX]))
 }
 
 /// A price file with something wrong in it, most often one thing.

@@ -2,7 +2,7 @@
 
 use crate::checker::{flat, Row};
 use crate::log::{Log, Request};
-use crate::prices::Prices;
+use crate::prices::{Prices, Upload};
 use crate::Refusal;
 
 const NEVER: u64 = u64::MAX;
@@ -12,14 +12,15 @@ fn size(set: usize) -> u64 {
 }
 
 /// The least cost by going through the seconds, for each set of servers the least cost at which just these
-/// hold over the next second. In a second the copy may be sent to any servers from those that hold it.
-pub fn least_by_sets(prices: Prices, log: &Log) -> u64 {
+/// hold over the next second. In a second the copy may be sent to any servers from those that hold it, and uploaded to any if there is an upload
+/// price; without one, once no server holds it, it is lost.
+pub fn least_by_sets(prices: Prices, upload: Upload, log: &Log) -> u64 {
     let sets = 1usize << log.header.server_count;
     let mut holding = vec![NEVER; sets];
     holding[1 << log.header.home] = 0;
     let Some(last) = log.requests.last() else { return 0 };
     for t in 0..=last.second {
-        let mut standing = with_transfers(prices, &holding);
+        let mut standing = with_arrivals(prices, upload, &holding);
         if let Some(request) = log.requests.iter().find(|request| request.second == t) {
             for set in 0..sets {
                 if set >> request.server & 1 == 0 {
@@ -36,19 +37,28 @@ pub fn least_by_sets(prices: Prices, log: &Log) -> u64 {
 }
 
 /// From the servers that hold up to a second to those where the copy stands in it.
-fn with_transfers(prices: Prices, holding: &[u64]) -> Vec<u64> {
+fn with_arrivals(prices: Prices, upload: Upload, holding: &[u64]) -> Vec<u64> {
     let mut standing = holding.to_vec();
-    for before in 1..holding.len() {
+    for before in 0..holding.len() {
         if holding[before] == NEVER {
             continue;
         }
-        for after in 1..holding.len() {
-            if before & after == before {
-                standing[after] = standing[after].min(holding[before] + prices.cost(0, size(after & !before)));
+        for after in 0..holding.len() {
+            if before & after == before && before != after {
+                let cost = arrival_cost(prices, upload, before, size(after & !before));
+                standing[after] = standing[after].min(holding[before].saturating_add(cost));
             }
         }
     }
     standing
+}
+
+/// The least cost of one or more servers that come to those that hold: some by uploads, one at least where none holds, the others by transfers.
+fn arrival_cost(prices: Prices, upload: Upload, before: usize, new: u64) -> u64 {
+    let fewest = u64::from(before == 0);
+    let most = if upload.is_some() { new } else { 0 };
+    let cost = |uploads: u64| prices.cost(0, new - uploads) + upload.unwrap_or(0) as u64 * uploads;
+    (fewest..=most).map(cost).min().unwrap_or(NEVER)
 }
 
 /// From the servers where the copy stands in a second to those that hold it to the next.
@@ -67,26 +77,32 @@ fn held_on(prices: Prices, standing: &[u64]) -> Vec<u64> {
     holding
 }
 
-/// The least cost by handing each list of rows that is in order to a checker: for 2 servers and 3 seconds 2^14 schedules.
-pub fn least_by_schedules(log: &Log, mut check: impl FnMut(&[u32]) -> Result<u64, Refusal>) -> u64 {
+/// The least cost by handing each list of rows that is in order to a checker: for 2 servers and 3 seconds 2^14 schedules, for 2 seconds with uploads
+/// 2^16.
+pub fn least_by_schedules(uploads: bool, log: &Log, mut check: impl FnMut(&[u32]) -> Result<u64, Refusal>) -> u64 {
     let last = log.last_second();
     let count = log.header.server_count as u32;
     let cells: Vec<(u32, u32)> = (0..count).flat_map(|server| (0..last).map(move |second| (server, second))).collect();
-    let mut transfers = Vec::new();
+    let mut arrivals = Vec::new();
     for second in 0..=last {
         for source in 0..count {
             for target in 0..count {
                 if source != target && last > 0 {
-                    transfers.push(Row::Transfer { source, target, second });
+                    arrivals.push(Row::Transfer { source, target, second });
                 }
             }
+        }
+    }
+    if uploads && last > 0 {
+        for second in 0..=last {
+            arrivals.extend((0..count).map(|target| Row::Upload { target, second }));
         }
     }
     let mut least = NEVER;
     for held in 0..1u64 << cells.len() {
         let holds = runs(&cells, held);
-        for sent in 0..1u64 << transfers.len() {
-            let chosen = (0..transfers.len()).filter(|&i| sent >> i & 1 == 1).map(|i| transfers[i]);
+        for arrived in 0..1u64 << arrivals.len() {
+            let chosen = (0..arrivals.len()).filter(|&i| arrived >> i & 1 == 1).map(|i| arrivals[i]);
             let rows: Vec<Row> = holds.iter().copied().chain(chosen).collect();
             if let Ok(cost) = check(&flat(&rows)) {
                 least = least.min(cost);
@@ -154,11 +170,36 @@ mod tests {
                 for requests in lists_of_gaps(2, &[1, 2, 3], 3) {
                     let log = Log { header, requests };
                     if log.last_second() <= 2 || (log.last_second() == 3 && class % 6 == 0) {
-                        let least = least_by_schedules(&log, |rows| checker::check(prices, &log, rows));
-                        assert_eq!(least, least_by_sets(prices, &log), "{prices:?} {log:?}");
+                        let least = least_by_schedules(false, &log, |rows| checker::check(prices, None, &log, rows));
+                        assert_eq!(least, least_by_sets(prices, None, &log), "{prices:?} {log:?}");
                     }
                 }
             }
         }
+    }
+
+    #[test]
+    fn both_searches_agree_on_uploads() {
+        let prices = Prices { hold: 3, transfer: 4 };
+        for home in 0..2 {
+            let header = Header { class: 0, server_count: 2, home, id: [0; 16] };
+            for requests in lists_of_gaps(2, &[1, 2], 2) {
+                let log = Log { header, requests };
+                if log.last_second() <= 2 {
+                    for upload in [2, 4, 7].map(Some) {
+                        let least = least_by_schedules(true, &log, |rows| checker::check(prices, upload, &log, rows));
+                        assert_eq!(least, least_by_sets(prices, upload, &log), "{upload:?} {log:?}");
+                    }
+                }
+            }
+        }
+    }
+
+    #[test]
+    fn arrivals() {
+        let cost = |upload, before, new| arrival_cost(Prices { hold: 1, transfer: 10 }, upload, before, new);
+        assert_eq!([cost(None, 1, 1), cost(None, 1, 3), cost(None, 0, 1)], [10, 30, NEVER]);
+        assert_eq!([cost(Some(4), 1, 1), cost(Some(4), 1, 3), cost(Some(4), 0, 3)], [4, 12, 12]);
+        assert_eq!([cost(Some(15), 1, 1), cost(Some(15), 1, 3), cost(Some(15), 0, 1), cost(Some(15), 0, 3)], [10, 30, 15, 35]);
     }
 }

@@ -10,8 +10,8 @@ use crate::Refusal;
 /// The sheet of a log.
 pub fn sheet(table: &Table, log: &Log) -> String {
     let prices = table.of(log.header.class);
-    let plan = planner::plan(prices, log);
-    let least = planner::least(prices, log);
+    let plan = planner::plan(prices, None, log);
+    let least = planner::least(prices, None, log);
     let mut cache = start_for_log(table, &log.header).unwrap();
     let mut text = String::from("scan second station plan live least bill\n");
     for (i, request) in log.requests.iter().enumerate() {

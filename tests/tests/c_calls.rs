@@ -20,6 +20,24 @@ least 1: 11
 least 2: 22
 least 3: 31
 least 4: 42
+plan uploads: 0 0 40 4
+marks: USKU
+check uploads: 0 0 40 0
+check uploads dearer: 0 0 2000020 0
+check no uploads: 15 3 0 0
+least uploads: 0 0 5 0
+least 0: 0
+least 1: 10
+least 2: 20
+least 3: 30
+least 4: 40
+plan uploads for 0: 44 0 0 0
+check uploads for 0: 44 0 0 0
+least uploads for too much: 44 0 0 0
+as it was: USKU 40
+plan uploads nothing: 1 0 0 0
+check uploads nothing: 18 1 0 0
+least uploads short: 31 5 0 0
 quote: 0 0 52 0
 quote nothing: 1 0 0 0
 start: 0 0 0 0
@@ -60,6 +78,19 @@ least 2: 44
 least 3: 62
 least 4: 84
 least with wrong: 38 1 0 0
+plan uploads with: 0 0 82 4
+marks: USKU
+plan uploads with wrong: 38 1 0 0
+check uploads with: 0 0 82 0
+check uploads with for 0: 44 0 0 0
+check uploads with nothing: 37 0 0 0
+least uploads with: 0 0 5 0
+least 0: 0
+least 1: 21
+least 2: 42
+least 3: 61
+least 4: 82
+least uploads with wrong: 38 1 0 0
 quote with: 0 0 104 0
 quote with wrong: 38 1 0 0
 quote with nothing: 37 0 0 0

@@ -4,25 +4,26 @@ mod library;
 
 use library::Library;
 use reference::compare::checker;
+use reference::random::no_upload;
 
 #[test]
 fn every_pair_of_rows() {
-    checker::every_pair_of_rows::<Library>();
+    checker::every_pair_of_rows::<Library>(None);
 }
 
 #[test]
 fn every_list_of_rows() {
-    checker::every_list_of_rows::<Library>();
+    checker::every_list_of_rows::<Library>(None);
 }
 
 #[test]
 fn random_rows() {
-    checker::random_rows::<Library>(4, 300_000);
+    checker::random_rows::<Library>(4, 300_000, no_upload);
 }
 
 #[test]
 fn damaged_logs() {
-    checker::damaged_logs::<Library>(5, 50_000);
+    checker::damaged_logs::<Library>(5, 50_000, no_upload);
 }
 
 #[test]
@@ -32,10 +33,10 @@ fn longest_chain() {
 
 #[test]
 fn many_rows() {
-    checker::many_rows::<Library>(6);
+    checker::many_rows::<Library>(6, no_upload);
 }
 
 #[test]
 fn bounds() {
-    checker::bounds::<Library>();
+    checker::bounds::<Library>(None);
 }

@@ -1,11 +1,12 @@
-//! How much stack the calls take, as include/caching.h says: each on a thread that has little more, without a price file and with the longest.
+//! How much stack the calls take, as include/caching.h says: each on a thread that has little more, without a price file and with the longest, those
+//! about schedules without an upload price and with some.
 
 mod library;
 
 use library::Library;
 use reference::calls::Calls;
 use reference::log::{Header, Log, Request};
-use reference::prices::{encode, HIGHEST};
+use reference::prices::{encode, Upload, HIGHEST};
 use std::thread::Builder;
 
 /// A call on a stack of so many bytes, those of the thread itself included: where they do not suffice, the system ends the test.
@@ -25,11 +26,16 @@ fn prices() -> Vec<u8> {
     encode(&[(1, HIGHEST); 256])
 }
 
+/// No upload price, one at which all is uploaded, one at which copies are held too, and the highest, at which there are transfers.
+const UPLOADS: [Upload; 4] = [None, Some(1), Some(200_000), Some(HIGHEST)];
+
 #[test]
 fn plan() {
     on(110_000, || {
         for prices in [None, Some(&prices()[..])] {
-            assert!(Library::plan(prices, &longest(), &mut vec![0; 2_048], &mut vec![0; 16_384]).is_ok());
+            for upload in UPLOADS {
+                assert!(Library::plan(prices, upload, &longest(), &mut vec![0; 2_048], &mut vec![0; 16_384]).is_ok());
+            }
         }
     });
 }
@@ -38,7 +44,9 @@ fn plan() {
 fn least() {
     on(60_000, || {
         for prices in [None, Some(&prices()[..])] {
-            assert_eq!(Library::least(prices, &longest(), &mut vec![0; 2_049]), Ok(2_049));
+            for upload in UPLOADS {
+                assert_eq!(Library::least(prices, upload, &longest(), &mut vec![0; 2_049]), Ok(2_049));
+            }
         }
     });
 }
@@ -47,7 +55,9 @@ fn least() {
 fn check() {
     on(20_000, || {
         for prices in [None, Some(&prices()[..])] {
-            assert!(Library::check(prices, &longest(), &[0, 63, 0, 3_999_744]).is_err());
+            for upload in UPLOADS {
+                assert!(Library::check(prices, upload, &longest(), &[0, 63, 0, 3_999_744]).is_err());
+            }
         }
     });
 }

@@ -9,14 +9,14 @@ use borrow.Author.Tests.{le-leb, lt-leb, eq-eqb, ne-eqb}
 use Rattle.base.specs.Choice.{pick, le-or-lt, same-or-not}
 use Rattle.base.specs.Lists.{build-at}
 use Rattle.model.specs.Requests.{Requests}
-use Rattle.model.specs.Marking.{Mark, K, S, keeps}
+use Rattle.model.specs.Marking.{K, S, keeps}
 use Rattle.online.specs.declared.Cache.{Cache}
 use Rattle.online.specs.ServerLaws.{across-same, has-set}
 use Rattle.online.specs.Rules.{window-of, copy-at, use-at, lasts, kept, uses, stands, next-use, seconds, accept, remaining}
 use Rattle.online.specs.ClosingLaws.{remaining-none, remaining-at}
 use Rattle.bounds.specs.History.{last-use, mark, held, transfers}
 use Rattle.bounds.specs.History as history
-use Rattle.bounds.specs.HistoryLaws.{Turn, target, source, other, turn, Marked, again, back, sent, marked, transfers-S, transfers-K}
+use Rattle.bounds.specs.HistoryLaws.{kept-or-sent, Turn, target, source, other, turn, Marked, again, back, sent, marked, transfers-S, transfers-K}
 use Rattle.bounds.specs.Seconds.{left-some, left-far, spent, spent-last, spent-other, held-step}
 
 -- server y has bit h and last use w in a state after request i: no copy, and its use, if it had one, has expired; or a copy and that use
@@ -93,12 +93,12 @@ module _ (W : ℕ) (q : Requests) (c : Cache) (i : ℕ) (w : window-of c ≡ W) 
     -- and no other
     uses-other : y ≢ x → (y ≡ q .server i → mark W q (suc i) ≡ K) → uses c τ x y ≡ false
     unfolding uses keeps
-    uses-other e f = go (same-or-not y (q .server i)) (mark W q (suc i)) refl
+    uses-other e f = go (same-or-not y (q .server i)) (kept-or-sent W q (suc i))
       where
-        go : (y ≡ q .server i) ⊎ (y ≢ q .server i) → (k : Mark) → mark W q (suc i) ≡ k → uses c τ x y ≡ false
-        go (inl z) k a = rw (ne-eqb y x e, m, f z)
-        go (inr z) K a = rw (ne-eqb y x e, m, a)
-        go (inr z) S a = rw (ne-eqb y x e, m, a, ne-eqb y (c .last) (λ v. z (v ∙ l)))
+        go : (y ≡ q .server i) ⊎ (y ≢ q .server i) → (mark W q (suc i) ≡ K) ⊎ (mark W q (suc i) ≡ S) → uses c τ x y ≡ false
+        go (inl z) k = rw (ne-eqb y x e, m, f z)
+        go (inr z) (inl a) = rw (ne-eqb y x e, m, a)
+        go (inr z) (inr a) = rw (ne-eqb y x e, m, a, ne-eqb y (c .last) (λ v. z (v ∙ l)))
 
     -- a server that it uses
     renewed : uses c τ x y ≡ true → last-use W q (suc i) y ≡ some τ → Seen W q (stands c τ x y) (next-use c τ x y) (suc i) y
@@ -162,7 +162,7 @@ agrees-next W q c i a up r =
       last-is = refl;
       second-is = refl;
       requests-are = ap suc (a .requests-are);
-      transfers-are = sent-on (mark W q (suc i)) refl;
+      transfers-are = sent-on (kept-or-sent W q (suc i));
       held-are =
           omega (
             arith,
@@ -184,6 +184,6 @@ agrees-next W q c i a up r =
     m : kept c τ x ≡ keeps (mark W q (suc i))
     m = kept-mark W q c i (a .window-is) (a .last-is) (a .second-is) up (a .seen x r)
 
-    sent-on : (k : Mark) → mark W q (suc i) ≡ k → pick (kept c τ x) (c .transfers) (suc (c .transfers)) ≡ transfers W q (suc i)
-    sent-on K e = rw (m, e) (omega (arith, a .transfers-are, transfers-K W q i e))
-    sent-on S e = rw (m, e) (omega (arith, a .transfers-are, transfers-S W q i e))
+    sent-on : (mark W q (suc i) ≡ K) ⊎ (mark W q (suc i) ≡ S) → pick (kept c τ x) (c .transfers) (suc (c .transfers)) ≡ transfers W q (suc i)
+    sent-on (inl e) = rw (m, e) (omega (arith, a .transfers-are, transfers-K W q i e))
+    sent-on (inr e) = rw (m, e) (omega (arith, a .transfers-are, transfers-S W q i e))

@@ -10,6 +10,7 @@ use Rattle.base.specs.declared.Verdict.the-variants.{Refused}
 use Rattle.prices.specs.declared.Prices.{Prices}
 use Rattle.prices.specs.Prices.{prices-of, window}
 use Rattle.log.specs.declared.Header.{Header}
+use Rattle.model.specs.Rates.{plain}
 use Rattle.model.specs.Requests.{Requests, Rising, Within}
 use Rattle.model.specs.Plan.{plan-cost}
 use Rattle.model.specs.Least.{Least}
@@ -60,8 +61,8 @@ module _ (table : List Prices) (s : Header) (first : Cache) (calls : List Call) 
     pub transfers-are : final .transfers ≡ transfers (window prices) served served-count
     pub remaining-are : (y : ℕ) → y < 64 → remaining final y ≡ history.remaining (window prices) served served-count y
     pub least : ℕ
-    pub is-least : Least prices (s .«server_count») served served-count least
-    pub is-planned : least ≡ plan-cost prices served served-count
+    pub is-least : Least (plain prices) (s .«server_count») served served-count least
+    pub is-planned : least ≡ plan-cost (plain prices) served served-count
     pub no-less : least ≤ running final
     pub no-more : running final ≤ 3 * least
     pub closing-no-less : running final ≤ closing final

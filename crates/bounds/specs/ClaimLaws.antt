@@ -8,6 +8,7 @@ use Rattle.prices.specs.Prices.{prices-of, window, In-range}
 use Rattle.log.specs.declared.Header.{Header}
 use Rattle.log.specs.Contents.{setup-in}
 use Rattle.log.specs.Ranges.{Allowed}
+use Rattle.model.specs.Rates.{plain}
 use Rattle.model.specs.Requests.{Requests, requests, Within}
 use Rattle.model.specs.Plan.{plan-cost}
 use Rattle.model.specs.PlanLaws.{plan-best}
@@ -100,15 +101,15 @@ module _ (table : List Prices) (s : Header) (k : Allowed (setup-in s)) (range : 
         held-are = r .agrees .held-are;
         transfers-are = r .agrees .transfers-are;
         remaining-are = remaining-left (window p) q c n (r .agrees);
-        least = plan-cost p q n;
-        is-least = plan-least p (s .«server_count») q n (r .rising) (r .within);
+        least = plan-cost (plain p) q n;
+        is-least = plan-least (plain p) (s .«server_count») q n (r .rising) (r .within);
         is-planned = refl;
-        no-less = omega (arith, running-is, plan-best p q n, not-below p q 64 n (r .rising) within-64);
+        no-less = omega (arith, running-is, plan-best (plain p) q n, not-below p q 64 n (r .rising) within-64);
         no-more =
             omega (
               arith,
               running-is,
-              plan-best p q n,
+              plan-best (plain p) q n,
               within-three p q 64 n (range .hold-least) (r .rising) within-64,
             );
         closing-no-less = closing-more c;
@@ -116,7 +117,7 @@ module _ (table : List Prices) (s : Header) (k : Allowed (setup-in s)) (range : 
             omega (
               arith,
               closing-is,
-              plan-best p q n,
+              plan-best (plain p) q n,
               closing-within p q 64 n (range .hold-least) (r .rising) within-64,
             );
       }

@@ -5,12 +5,12 @@ use mathlib.Core.Logic.{_⊎_, inl, inr, _≢_}
 use mathlib.Core.Option.{Option, none, some}
 use mathlib.Core.Path.{_≡_, refl, sym, ap, _∙_}
 use native.Mathlib.Omega.{arith}
-use Prim.Native.Nat.{ℕ, zero, suc, _+_, _≤_, _<_}
+use Prim.Native.Nat.{ℕ, zero, suc, pred, _+_, _≤_, _<_}
 use borrow.Author.Tests.{le-leb, lt-leb, eq-eqb, ne-eqb}
-use Rattle.base.specs.Choice.{le-or-lt, same-or-not}
+use Rattle.base.specs.Choice.{pick, le-or-lt, same-or-not}
 use Rattle.model.specs.Requests.{Requests, latest, Rising}
 use Rattle.model.specs.RequestLaws.{none-some, latest-hit, latest-miss, rises-le}
-use Rattle.model.specs.Marking.{Mark, K, S, keeps}
+use Rattle.model.specs.Marking.{Mark, K, S, U, sends}
 use Rattle.model.specs.Marking as marking
 use Rattle.model.specs.Sums.{sum}
 use Rattle.bounds.specs.History.{recent, near, next, last-use, mark, transfers}
@@ -29,6 +29,23 @@ module _ (W : ℕ) (q : Requests) where
   mark-S : (i : ℕ) → near W q (last-use W q i) i ≡ false → mark W q (suc i) ≡ S
   unfolding mark
   mark-S i e = rw e
+
+  -- it is one of the two
+  pub kept-or-sent : (i : ℕ) → (mark W q i ≡ K) ⊎ (mark W q i ≡ S)
+  unfolding mark
+  kept-or-sent i = go (near W q (last-use W q (pred i)) (pred i))
+    where
+      go : (b : Bool) → (pick b K S ≡ K) ⊎ (pick b K S ≡ S)
+      go true = inl refl
+      go false = inr refl
+
+  -- and never U
+  pub never-U : (i : ℕ) → mark W q i ≡ U → ⊥
+  never-U i e = go (kept-or-sent i)
+    where
+      go : (mark W q i ≡ K) ⊎ (mark W q i ≡ S) → ⊥
+      go (inl k) = let z : _≡_ {A = ℕ} 0 1 = cc in omega arith
+      go (inr k) = let z : _≡_ {A = ℕ} 0 1 = cc in omega arith
 
   -- server y at request i + 1: it is its server, or the source of its transfer, or neither
   pub data Turn (i y : ℕ) : Type 0 where
@@ -109,20 +126,20 @@ module _ (W : ℕ) (q : Requests) where
 
   -- an S is one transfer more
   pub transfers-S : (i : ℕ) → mark W q (suc i) ≡ S → transfers W q (suc i) ≡ suc (transfers W q i)
-  unfolding transfers marking.sent sum keeps
+  unfolding transfers marking.sent sum sends
   transfers-S i e = rw e (omega arith)
 
   -- a K is none
   pub transfers-K : (i : ℕ) → mark W q (suc i) ≡ K → transfers W q (suc i) ≡ transfers W q i
-  unfolding transfers marking.sent sum keeps
+  unfolding transfers marking.sent sum sends
   transfers-K i e = rw e (omega arith)
 
   -- there are no more than requests
   pub transfers-most : (i : ℕ) → transfers W q i ≤ i
   unfolding transfers marking.sent sum
   transfers-most zero = omega arith
-  transfers-most (suc i) = go (mark W q (suc i)) refl (transfers-most i)
+  transfers-most (suc i) = go (kept-or-sent (suc i)) (transfers-most i)
     where
-      go : (m : Mark) → mark W q (suc i) ≡ m → transfers W q i ≤ i → transfers W q (suc i) ≤ suc i
-      go K e ih = omega (arith, transfers-K i e)
-      go S e ih = omega (arith, transfers-S i e)
+      go : (mark W q (suc i) ≡ K) ⊎ (mark W q (suc i) ≡ S) → transfers W q i ≤ i → transfers W q (suc i) ≤ suc i
+      go (inl e) ih = omega (arith, transfers-K i e)
+      go (inr e) ih = omega (arith, transfers-S i e)

@@ -14,14 +14,15 @@ use Rattle.model.specs.SumLaws.{total-append, inside, inside-in, inside-low, in
 use Rattle.model.specs.Requests.{Requests, previous, Rising, Within}
 use Rattle.model.specs.RequestLaws.{none-some, previous-next, rises-le}
 use Rattle.model.specs.Once.{awaits-own, since-some, Claim, idle, claims, claims-met}
-use Rattle.model.specs.Marking.{Mark, K, S, keeps, some?, legal, begin}
+use Rattle.model.specs.Rates.{rates, plain, some?, or-zero}
+use Rattle.model.specs.Marking.{K, S, keeps, legal, begin}
 use Rattle.model.specs.Table.{best}
 use Rattle.model.specs.Exchange.{best-free}
-use Rattle.model.specs.Demand.{spanned, spans-over, Keepable, demand}
+use Rattle.model.specs.Demand.{spanned, spans-over, Proper, demand}
 use Rattle.online.specs.Servers.{across}
 use Rattle.online.specs.ServerLaws.{across-one}
 use Rattle.bounds.specs.History.{mark, before, over, held, transfers, running-cost}
-use Rattle.bounds.specs.HistoryLaws.{kept-sent, Marked, again, back, sent, marked, Link, never, since, link}
+use Rattle.bounds.specs.HistoryLaws.{kept-sent, kept-or-sent, never-U, Marked, again, back, sent, marked, Link, never, since, link}
 use Rattle.bounds.specs.Holding.{before-lies, last-over, kept-over}
 
 -- the servers below n, as a list
@@ -56,10 +57,10 @@ module _ (W : ℕ) (q : Requests) (count n : ℕ) (rising : Rising q n) (within 
       go (back s m u a f) (since j w b c d g) = (j, b)
       go (sent s m f) l = absurd (kept-sent e m)
 
-  -- the marks are K only where there is one
-  pub mark-keepable : Keepable q n (mark W q)
-  unfolding Keepable legal some?
-  mark-keepable i h e = rw (kept-from i h e .1)
+  -- the marks are K only where there is one, and never U
+  pub mark-proper : (p : Prices) → Proper (plain p) q n (mark W q)
+  unfolding legal some?
+  mark-proper p = record { kept = λ i h e. rw (kept-from i h e .1); offered = λ i h e. absurd (never-U W q (suc i) e) }
 
   -- request i claims a server that holds over second τ, for a number v
   abbrev Claims : ℕ → ℕ → ℕ → Type 0
@@ -69,7 +70,7 @@ module _ (W : ℕ) (q : Requests) (count n : ℕ) (rising : Rising q n) (within 
   span-claim : (τ i : ℕ) → 1 ≤ i → i ≤ n → Claims τ i (spanned q (begin q (mark W q) i) i τ)
   unfolding begin keeps spanned Within
   span-claim τ zero a b = absurd (omega arith)
-  span-claim τ (suc i) a b = go (mark W q (suc i)) refl
+  span-claim τ (suc i) a b = go (kept-or-sent W q (suc i))
     where
       in-span : (j : ℕ) → mark W q (suc i) ≡ K → previous q (suc i) ≡ some j → (τ ≤ q .time j) ⊎ (q .time j < τ)
           → (τ ≤ q .time (suc i)) ⊎ (q .time (suc i) < τ) → Claims τ (suc i) (inside (q .time j) (q .time (suc i)) τ)
@@ -80,9 +81,9 @@ module _ (W : ℕ) (q : Requests) (count n : ℕ) (rising : Rising q n) (within 
           (omega (arith, inside-in (q .time j) (q .time (suc i)) τ c d, kept-over W q n rising i j τ b m e c d))
           (awaits-own q τ (suc i) (since-some q (suc i) j τ e c) d)
 
-      go : (m : Mark) → mark W q (suc i) ≡ m → Claims τ (suc i) (spanned q (begin q (mark W q) (suc i)) (suc i) τ)
-      go K m = let f = kept-from i b m in rw (m, f .1) (in-span (f .0) m (f .1) (le-or-lt τ (q .time (f .0))) (le-or-lt τ (q .time (suc i))))
-      go S m = rw m (idle refl)
+      go : (mark W q (suc i) ≡ K) ⊎ (mark W q (suc i) ≡ S) → Claims τ (suc i) (spanned q (begin q (mark W q) (suc i)) (suc i) τ)
+      go (inl m) = let f = kept-from i b m in rw (m, f .1) (in-span (f .0) m (f .1) (le-or-lt τ (q .time (f .0))) (le-or-lt τ (q .time (suc i))))
+      go (inr m) = rw m (idle refl)
 
   -- the K spans over a second are no more than the servers that hold
   spans-held : (τ : ℕ) → spans-over q (begin q (mark W q)) n τ ≤ across count (over W q n τ)
@@ -106,17 +107,17 @@ module _ (W : ℕ) (q : Requests) (count n : ℕ) (rising : Rising q n) (within 
       )
 
   -- the demand lemma for these marks and copies
-  pub not-below-window : (p : Prices) → best p q n n ≤ p .hold * held W q count n + p .transfer * transfers W q n
-  unfolding held transfers
+  pub not-below-window : (p : Prices) → best (plain p) q n n ≤ p .hold * held W q count n + p .transfer * transfers W q n
+  unfolding held transfers rates or-zero
   not-below-window p =
       omega (
         arith,
-        best-free p q n rising,
-        demand p q n rising (mark W q) mark-keepable n (λ τ. across count (over W q n τ)) (omega arith) (λ τ a. spans-held τ)
+        best-free (plain p) q n rising,
+        demand (plain p) q n rising (mark W q) (mark-proper p) n (λ τ. across count (over W q n τ)) (omega arith) (λ τ a. spans-held τ)
             (λ l τ h e a b. some-held τ (omega arith) (omega (arith, rises-le rising (suc l) n h (omega arith)))),
       )
 
 -- the running cost is at least the least cost
-pub not-below : (p : Prices) (q : Requests) (count n : ℕ) → Rising q n → Within count q n → best p q n n ≤ running-cost p q count n
+pub not-below : (p : Prices) (q : Requests) (count n : ℕ) → Rising q n → Within count q n → best (plain p) q n n ≤ running-cost p q count n
 unfolding running-cost
 not-below p q count n rising within = not-below-window (window p) q count n rising within p

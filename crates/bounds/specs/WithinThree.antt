@@ -1,7 +1,7 @@
 -- The running cost, with what is still to be held, is at most three times the least, and the closing cost at most a transfer more: for all prices of at
 -- least 1.
 use mathlib.Core.Option.{some}
-use mathlib.Core.Path.{_≡_, ap}
+use mathlib.Core.Path.{_≡_, refl, ap}
 use native.Mathlib.Nat.{mul-le-mul-left, mul-sub}
 use native.Mathlib.Omega.{arith}
 use Prim.Native.Nat.{ℕ, zero, suc, _+_, _-_, _*_, _≤_, _<_}
@@ -11,6 +11,7 @@ use Rattle.prices.specs.WindowLaws.{window-low, window-high}
 use Rattle.model.specs.Sums.{sum}
 use Rattle.model.specs.Requests.{Requests, previous, Rising, Within}
 use Rattle.model.specs.RequestLaws.{none-some, rises-le}
+use Rattle.model.specs.Rates.{rates, plain}
 use Rattle.model.specs.Table.{best}
 use Rattle.model.specs.Bounds.{best-bounded}
 use Rattle.model.specs.Quote.{least-own}
@@ -129,18 +130,18 @@ module _ (p : Prices) (q : Requests) (count n : ℕ) (holding : 1 ≤ p .hold) (
   bound (suc i) h = bound-step i h (bound i (omega arith)) (marked W q i)
 
   -- the running cost with what is left to hold (the last second's holding and the potential) is at most three times the least cost
-  pub within-three-left : running-cost p q count n + p .hold * lefts p q count n ≤ 3 * best p q n n
-  unfolding running-cost
+  pub within-three-left : running-cost p q count n + p .hold * lefts p q count n ≤ 3 * best (plain p) q n n
+  unfolding running-cost rates
   within-three-left =
-      let b = best-bounded p q n rising in
+      let b = best-bounded (plain p) q n rising refl in
       omega (arith, bound n (omega arith), b .owns n n, b .holds n n (omega arith) (omega arith))
 
   -- so is the running cost
-  pub within-three : running-cost p q count n ≤ 3 * best p q n n
+  pub within-three : running-cost p q count n ≤ 3 * best (plain p) q n n
   within-three = omega (arith, within-three-left)
 
   -- the closing cost has the last server's window besides, which costs at most a transfer
-  pub closing-within : closing-cost p q count n ≤ 3 * best p q n n + p .transfer
+  pub closing-within : closing-cost p q count n ≤ 3 * best (plain p) q n n + p .transfer
   unfolding closing-cost lefts Within
   closing-within =
       omega (

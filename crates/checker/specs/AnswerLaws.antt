@@ -1,51 +1,68 @@
--- The answer by the log's verdict and the schedule's, and the bounds of a cost that is answered.
-use mathlib.Core.List.{List}
+-- The answer by the verdicts of the log, the upload price and the schedule, and the bounds of a cost that is answered.
+use mathlib.Core.List.{List, _++_}
+use mathlib.Core.Option.{Option, none, some}
 use mathlib.Core.Path.{_≡_, sym, ap, _∙_}
 use native.Mathlib.Nat.{mul-le-mul}
 use native.Mathlib.Omega.{arith}
 use Prim.Native.Nat.{ℕ, zero, suc, _^_, _≤_, _<_}
+use lib.Dec.{ltb, eqb}
+use borrow.Author.Tests.{ltb-false}
+use Rattle.base.specs.ChoiceLaws.{either-false}
 use Rattle.base.specs.declared.Refusal.{Refusal}
 use Rattle.base.specs.declared.Verdict.{Verdict}
 use Rattle.base.specs.declared.Verdict.the-variants.{Passed, Refused}
 use Rattle.base.specs.Refusals.{first, otherwise}
-use Rattle.base.specs.RefusalLaws.{first-append, otherwise-assoc}
+use Rattle.base.specs.RefusalLaws.{first-append, first-passed, otherwise-assoc}
 use Rattle.prices.specs.Tariff.{Tariff}
 use Rattle.prices.specs.PriceLaws.{Priced}
+use Rattle.prices.specs.Uploads.{upload-conditions}
 use Rattle.log.specs.Fields.{server-count, request-count}
 use Rattle.log.specs.Conditions.{log-conditions, verdict-of, Accepted}
 use Rattle.log.specs.Ranges.{Sound}
 use Rattle.log.specs.AcceptedLaws.{accepted-sound}
+use Rattle.model.specs.Rates.{rates, some?, or-zero}
 use Rattle.model.specs.Sums.{total}
 use Rattle.model.specs.Requests.{requests}
-use Rattle.model.specs.LogRequests.{requests-in, prices-in}
+use Rattle.model.specs.LogRequests.{requests-in, prices-in, rates-in}
 use Rattle.model.specs.LogRequestLaws.{log-priced}
-use Rattle.model.specs.Schedule.{length-of, is-transfer}
+use Rattle.model.specs.Schedule.{length-of, is-transfer, is-upload}
 use Rattle.model.specs.RowForm.{rows-of}
 use Rattle.model.specs.Checking.{schedule-conditions, check-cost}
 use Rattle.model.specs.CheckingLaws.{accepts-iff}
-use Rattle.model.specs.CostBound.{hold-seconds, transfer-count}
+use Rattle.model.specs.CostBound.{hold-seconds, transfer-count, upload-count}
 use Rattle.checker.specs.declared.Checked.the-variants as answer
 use Rattle.checker.specs.Answers.{check-conditions, check-verdict-of, checked, check-answer}
 use Rattle.checker.specs.Quick.{schedule-tests}
 use Rattle.checker.specs.QuickTests.{same-verdict}
 
--- the log's verdict where it refuses, else the schedule's
-pub verdict-parts : (t : Tariff) (log ns : List ℕ)
-    → check-verdict-of t log ns ≡ otherwise (verdict-of t log) (first (schedule-conditions (server-count log) (requests-in log) (request-count log) ns))
+-- the log's verdict where it refuses, else the upload price's, else the schedule's
+pub verdict-parts : (t : Tariff) (u : Option ℕ) (log ns : List ℕ)
+    → check-verdict-of t u log ns
+    ≡ otherwise (verdict-of t log)
+    (otherwise (first (upload-conditions u)) (first (schedule-conditions (rates-in t u log) (server-count log) (requests-in log) (request-count log) ns)))
 unfolding check-verdict-of check-conditions verdict-of
-verdict-parts t log ns =
-    ap (otherwise (t .judged)) (first-append (log-conditions (t .table) log) _) ∙ otherwise-assoc (t .judged) (first (log-conditions (t .table) log)) _
+verdict-parts t u log ns =
+    let rest = schedule-conditions (rates-in t u log) (server-count log) (requests-in log) (request-count log) ns in
+    ap (otherwise (t .judged)) (first-append (log-conditions (t .table) log) (upload-conditions u ++ rest))
+    ∙ otherwise-assoc (t .judged) (first (log-conditions (t .table) log)) (first (upload-conditions u ++ rest))
+    ∙ ap (otherwise (otherwise (t .judged) (first (log-conditions (t .table) log)))) (first-append (upload-conditions u) rest)
 
 -- a refused log
-pub log-refused : (t : Tariff) (log ns : List ℕ) (r : Refusal) → verdict-of t log ≡ Refused r → check-answer t log ns ≡ answer.Refused r
+pub log-refused : (t : Tariff) (u : Option ℕ) (log ns : List ℕ) (r : Refusal) → verdict-of t log ≡ Refused r → check-answer t u log ns ≡ answer.Refused r
 unfolding check-answer checked
-log-refused t log ns r e = rw (verdict-parts t log ns, e)
+log-refused t u log ns r e = rw (verdict-parts t u log ns, e)
 
--- an accepted log: what the code's conditions give
-pub log-accepted : (t : Tariff) (log ns : List ℕ) (v : Verdict) → verdict-of t log ≡ Passed → first (schedule-tests log ns) ≡ v
-    → check-answer t log ns ≡ checked v (check-cost (prices-in t log) ns)
-unfolding check-answer Accepted
-log-accepted t log ns v a e = rw (verdict-parts t log ns, a, ← same-verdict log ns (accepted-sound t log a), e)
+-- an accepted log, a refused upload price
+pub price-refused : (t : Tariff) (u : Option ℕ) (log ns : List ℕ) (r : Refusal) → verdict-of t log ≡ Passed → first (upload-conditions u) ≡ Refused r
+    → check-answer t u log ns ≡ answer.Refused r
+unfolding check-answer checked
+price-refused t u log ns r a e = rw (verdict-parts t u log ns, a, e)
+
+-- both accepted: what the code's conditions give
+pub log-accepted : (t : Tariff) (u : Option ℕ) (log ns : List ℕ) (v : Verdict) → verdict-of t log ≡ Passed → first (upload-conditions u) ≡ Passed
+    → first (schedule-tests (some? u) log ns) ≡ v → check-answer t u log ns ≡ checked v (check-cost (rates-in t u log) ns)
+unfolding check-answer Accepted rates
+log-accepted t u log ns v a p e = rw (verdict-parts t u log ns, a, p, ← same-verdict log ns (accepted-sound t log a) (rates-in t u log), e)
 
 -- ---- bounds
 
@@ -55,23 +72,33 @@ unfolding requests-in requests
 last-most log a zero l = omega arith
 last-most log a (suc k) l = a .in-order k l .second-most
 
--- the seconds held and the transfers of accepted rows
-pub sums-fit : (t : Tariff) (log ns : List ℕ) → verdict-of t log ≡ Passed → first (schedule-tests log ns) ≡ Passed
-    → (total length-of (rows-of ns) < 2 ^ 40) × (total is-transfer (rows-of ns) < 2 ^ 40)
-unfolding Accepted
-sums-fit t log ns a e =
+-- the seconds held, the transfers and the uploads of accepted rows
+pub sums-fit : (t : Tariff) (u : Option ℕ) (log ns : List ℕ) → verdict-of t log ≡ Passed → first (schedule-tests (some? u) log ns) ≡ Passed
+    → (total length-of (rows-of ns) < 2 ^ 40) × (total is-transfer (rows-of ns) < 2 ^ 40) × (total is-upload (rows-of ns) < 2 ^ 40)
+unfolding Accepted rates
+sums-fit t u log ns a e =
     let s = accepted-sound t log a in
     let count = server-count log in
     let last = requests-in log .time (request-count log) in
-    let w = accepts-iff count (requests-in log) (request-count log) ns .0 (sym (same-verdict log ns s) ∙ e) .shaped in
+    let p = rates-in t u log in
+    let w = accepts-iff p count (requests-in log) (request-count log) ns .0 (sym (same-verdict log ns s p) ∙ e) .shaped in
     let c : count ≤ 64 = s .setup .servers-most in
     let l : last ≤ 4000000 = last-most log s (request-count log) (omega arith) in
     let t : suc last ≤ 4000001 = omega arith in (
       omega (arith, hold-seconds count last (request-count log) (rows-of ns) w, mul-le-mul c l),
       omega (arith, transfer-count count last (request-count log) (rows-of ns) w, mul-le-mul (mul-le-mul t c) c),
+      omega (arith, upload-count count last (request-count log) (rows-of ns) w, mul-le-mul t c),
     )
 
 -- the prices of an accepted log
 pub prices-fit : (t : Tariff) → Priced t → (log : List ℕ) → verdict-of t log ≡ Passed → (prices-in t log .hold ≤ 1000000) × (prices-in t log .transfer ≤ 1000000)
 unfolding Accepted
 prices-fit t p log a = let r = log-priced t p log a in (r .hold-most, r .transfer-most)
+
+-- an upload price that passed
+pub fee-fits : (u : Option ℕ) → first (upload-conditions u) ≡ Passed → or-zero u ≤ 1000000
+unfolding upload-conditions or-zero
+fee-fits none e = omega arith
+fee-fits (some y) e =
+    let (a, b) = either-false (eqb y 0) (ltb 1000000 y) (first-passed (upload-conditions (some y)) .0 e 0) in
+    ltb-false 1000000 y b

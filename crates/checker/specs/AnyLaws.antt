@@ -1,7 +1,7 @@
 -- Laws of `any-below`: some number below n passes a test.
 use mathlib.Core.Bool.{Bool, true, false}
 use mathlib.Core.Logic.{_⊎_, inl, inr}
-use mathlib.Core.Path.{_≡_, refl, sym}
+use mathlib.Core.Path.{_≡_, refl, sym, ap, _∙_}
 use native.Mathlib.Omega.{arith}
 use Prim.Native.Nat.{ℕ, zero, suc, _≤_, _<_}
 use Rattle.base.specs.Choice.{either, le-or-lt, not-both}
@@ -45,3 +45,16 @@ any-of (suc n) f i l e = go (le-or-lt n i) (any-of n f i)
 pub any-more : (n : ℕ) (f : ℕ → Bool) → any-below n f ≡ false → f n ≡ false → any-below (suc n) f ≡ false
 unfolding any-below
 any-more n f p q = rw p q
+
+-- one of two tests
+either-pairs : (a b c d : Bool) → either (either a b) (either c d) ≡ either (either a c) (either b d)
+either-pairs true b c d = refl
+either-pairs false true true d = refl
+either-pairs false true false d = refl
+either-pairs false false c d = refl
+
+pub any-either : (n : ℕ) (f g : ℕ → Bool) → any-below n (λ i. either (f i) (g i)) ≡ either (any-below n f) (any-below n g)
+unfolding any-below
+any-either zero f g = refl
+any-either (suc n) f g =
+    ap (λ (t : Bool). either t (either (f n) (g n))) (any-either n f g) ∙ either-pairs (any-below n f) (any-below n g) (f n) (g n)

@@ -5,6 +5,7 @@ use mathlib.Core.Path.{_≡_, sym, ap}
 use native.Mathlib.Omega.{arith}
 use Prim.Native.Nat.{ℕ, suc, _+_, _-_, _≤_, _<_}
 use lib.Dec.{ltb, eqb}
+use borrow.Author.Tests.{lt-ltb, le-ltb}
 use Rattle.base.specs.Choice.{pick, either, both}
 use Rattle.base.specs.Refusals.{refuse, first, each, otherwise}
 use Rattle.base.specs.RefusalLaws.{first-append}
@@ -14,8 +15,8 @@ use Rattle.model.specs.Checking.{row-count}
 use Rattle.checker.specs.declared.Quad.{Quad}
 use Rattle.checker.specs.Reading.{quad-at, as-row, server-of, second-of}
 use Rattle.checker.specs.ReadingLaws.{server-read, target-read}
-use Rattle.checker.specs.Search.{hold-key, second-key, position}
-use Rattle.checker.specs.Quick.{standing-at, any-below, aims, first-of, number-of, fed, starts, unfed, lower, starved, unbacked, hold-test, transfer-test, copy-tests}
+use Rattle.checker.specs.Search.{hold-key, second-key, upload-key, position}
+use Rattle.checker.specs.Quick.{standing-at, any-below, aims, first-of, number-of, first-upload, puts, loaded, fed, starts, unfed, lower, starved, unbacked, hold-test, transfer-test, copy-tests}
 use Rattle.checker.specs.AnyLaws.{any-of, any-more}
 use Rattle.checker.specs.QuickSteps.{unless, alone}
 
@@ -46,11 +47,22 @@ module _ (ns : List ℕ) (x from : ℕ) where
       let n : i + 1 - from ≡ suc (i - from) = omega arith in
       rw n (any-more (i - from) aims-on p (aims-read i r false h d e))
 
--- the transfers of a second
+-- the transfers of a second, and its upload to the server
 pub fed-read : (home : ℕ) (ns : List ℕ) (t x from to : ℕ) (b d : Bool) → from ≡ position ns (second-key t) → to ≡ position ns (second-key (suc t))
-    → b ≡ both (eqb t 0) (eqb x home) → d ≡ any-below (to - from) (aims-on ns x from) → fed home ns t x ≡ either b d
+    → b ≡ both (eqb t 0) (eqb x home) → d ≡ any-below (to - from) (aims-on ns x from) → fed home ns t x ≡ either b (either d (loaded ns t x))
 unfolding fed first-of number-of
-fed-read home ns t x from to b d p q e f = rw e (ap (either (both (eqb t 0) (eqb x home))) (sym (simp (p, q) at f)))
+fed-read home ns t x from to b d p q e f =
+    rw e (ap (λ (v : Bool). either (both (eqb t 0) (eqb x home)) (either v (loaded ns t x))) (sym (simp (p, q) at f)))
+
+-- the upload, by the numbers that were read
+pub loaded-past : (ns : List ℕ) (t x p : ℕ) → p ≡ position ns (upload-key t x) → row-count ns ≤ p → loaded ns t x ≡ false
+unfolding loaded
+loaded-past ns t x p e l = rw (← e, le-ltb p (row-count ns) l)
+
+pub loaded-read : (ns : List ℕ) (t x p : ℕ) (r : Quad) (b : Bool) → p ≡ position ns (upload-key t x) → p < row-count ns → r ≡ quad-at ns p
+    → b ≡ puts t x (as-row r) → loaded ns t x ≡ b
+unfolding loaded quad-at row-at
+loaded-read ns t x p r b e l d f = rw (← e, lt-ltb p (row-count ns) l, f, d)
 
 -- ---- the first hold without a copy
 
@@ -97,8 +109,8 @@ unfolding hold-test
 hold-found home ns low i b e = rw (← e) (found b 17 (suc i))
 
 -- holds, then transfers
-pub copy-parts : (count home : ℕ) (ns : List ℕ) (holds low late : ℕ) → holds ≡ position ns (second-key 0)
-    → low ≡ starved count home ns holds (row-count ns - holds) → late ≡ unbacked count home ns holds (row-count ns - holds)
+pub copy-parts : (count home : ℕ) (ns : List ℕ) (holds uploads low late : ℕ) → holds ≡ position ns (second-key 0) → uploads ≡ position ns (upload-key 0 0)
+    → low ≡ starved count home ns holds (uploads - holds) → late ≡ unbacked count home ns holds (uploads - holds)
     → first (copy-tests count home ns) ≡ otherwise (first (each (hold-test home ns low) holds)) (first (transfer-test ns late))
-unfolding copy-tests first-of
-copy-parts count home ns holds low late p q r = rw (← p, ← q, ← r) (first-append (each (hold-test home ns low) holds) (transfer-test ns late))
+unfolding copy-tests first-of first-upload
+copy-parts count home ns holds uploads low late p u q r = rw (← p, ← u, ← q, ← r) (first-append (each (hold-test home ns low) holds) (transfer-test ns late))

@@ -4,12 +4,14 @@ pub mod Answers
 -- How the code comes by it, and why that is the same.
 pub mod Reading
 pub mod ReadingLaws
+pub mod GivenLaws
 pub mod Search
 pub mod SearchLaws
 pub mod KeyLaws
 pub mod Quick
 pub mod AnyLaws
 pub mod QuickSets
+pub mod QuickUploads
 pub mod QuickReach
 pub mod QuickRounds
 pub mod QuickStanding

@@ -8,13 +8,15 @@ use Rattle.base.specs.Bytes.{le16, le32}
 use Rattle.base.specs.Choice.{pick, both, either}
 use Rattle.base.specs.Refusals.{Condition, refuse, each}
 use Rattle.base.specs.Sets.{has, put}
+use Rattle.prices.specs.Uploads.{if-given}
 use Rattle.log.specs.Fields.{server-count, home-of, request-count}
+use Rattle.model.specs.Rates.{Rates}
 use Rattle.model.specs.LogRequests.{requests-in}
-use Rattle.model.specs.Schedule.{Row, hold, move, transfer}
+use Rattle.model.specs.Schedule.{Row, hold, move, transfer, upload}
 use Rattle.model.specs.RowForm.{row-at, fits}
-use Rattle.model.specs.Checking.{row-count, misplaced}
+use Rattle.model.specs.Checking.{row-count, kind-fits, misplaced}
 use Rattle.checker.specs.Reading.{server-of, second-of, target-of}
-use Rattle.checker.specs.Search.{hold-key, second-key, position}
+use Rattle.checker.specs.Search.{hold-key, second-key, upload-key, position}
 
 -- the set with server x, where a word has room for it
 unfoldable pub join : ℕ → ℕ → ℕ
@@ -31,10 +33,10 @@ reaches ns τ x =
     let p = position ns (hold-key x τ) in
     both (not (eqb p 0)) (covers τ x (row-at ns (pred p)))
 
--- the servers where the n rows from one on begin or leave
-unfoldable pub sources : List ℕ → ℕ → ℕ → ℕ
-sources ns from zero = 0
-sources ns from (suc n) = join (sources ns from n) (server-of (row-at ns (from + n)))
+-- with the servers where the n rows from one on begin, leave or arrive by an upload
+unfoldable pub servers : List ℕ → ℕ → ℕ → ℕ → ℕ
+servers ns from w zero = w
+servers ns from w (suc n) = join (servers ns from w n) (server-of (row-at ns (from + n)))
 
 -- with server x of some, where a hold keeps the copy there up to τ; with those of them below n
 unfoldable pub with-hold : List ℕ → ℕ → ℕ → ℕ → ℕ → ℕ
@@ -52,6 +54,7 @@ begun home τ = pick (eqb τ 0) (join 0 home) 0
 unfoldable pub arrival : ℕ → ℕ → Row → ℕ
 arrival τ w (hold x a b) = w
 arrival τ w (move (transfer y x σ)) = pick (both (eqb σ τ) (has w y)) (join w x) w
+arrival τ w (move (upload x σ)) = w
 
 -- the n rows from one on, once
 unfoldable pub along : List ℕ → ℕ → ℕ → ℕ → ℕ → ℕ
@@ -63,16 +66,31 @@ unfoldable pub settle : ℕ → (ℕ → ℕ) → ℕ → ℕ
 settle zero f w = w
 settle (suc m) f w = pick (eqb (f w) w) w (settle m f (f w))
 
--- the first row of second τ, and the number of its rows
+-- the first transfer of second τ, and the number of them
 unfoldable pub first-of : List ℕ → ℕ → ℕ
 first-of ns τ = position ns (second-key τ)
 
 unfoldable pub number-of : List ℕ → ℕ → ℕ
 number-of ns τ = position ns (second-key (suc τ)) - first-of ns τ
 
+-- the first upload of second τ, and the number of them
+unfoldable pub first-upload : List ℕ → ℕ → ℕ
+first-upload ns τ = position ns (upload-key τ 0)
+
+unfoldable pub upload-number : List ℕ → ℕ → ℕ
+upload-number ns τ = position ns (upload-key τ 64) - first-upload ns τ
+
+-- the sources of the transfers of τ
+unfoldable pub sources : List ℕ → ℕ → ℕ
+sources ns τ = servers ns (first-of ns τ) 0 (number-of ns τ)
+
+-- at τ: home at second 0, and the targets of its uploads
+unfoldable pub uploaded-to : ℕ → List ℕ → ℕ → ℕ
+uploaded-to home ns τ = servers ns (first-upload ns τ) (begun home τ) (upload-number ns τ)
+
 -- the set at τ, of the sources of its transfers, before they are made
 unfoldable pub before-transfers : ℕ → ℕ → List ℕ → ℕ → ℕ
-before-transfers count home ns τ = gather ns τ (sources ns (first-of ns τ) (number-of ns τ)) (begun home τ) count
+before-transfers count home ns τ = gather ns τ (sources ns τ) (uploaded-to home ns τ) count
 
 -- the transfers of τ, once
 unfoldable pub second-pass : List ℕ → ℕ → ℕ → ℕ
@@ -82,10 +100,15 @@ second-pass ns τ w = along ns τ (first-of ns τ) w (number-of ns τ)
 unfoldable pub standing-at : ℕ → ℕ → List ℕ → ℕ → ℕ
 standing-at count home ns τ = settle count (second-pass ns τ) (before-transfers count home ns τ)
 
+-- rates that offer uploads, or not; of the rates 15 asks no more
+unfoldable pub offering : Bool → Rates
+offering given = record { hold = 0; transfer = 0; upload = if-given given 0 }
+
 -- row i, from 0: 15, then 16, for n requests, the last at second `last`
-unfoldable pub row-tests : ℕ → ℕ → ℕ → List ℕ → ℕ → List Condition
-row-tests count n last ns i =
-    refuse 15 (suc i) (either (ltb 1 (getD ns (4 * i) 0)) (either (eqb n 0) (not (fits count last (row-at ns i)))))
+unfoldable pub row-tests : Bool → ℕ → ℕ → ℕ → List ℕ → ℕ → List Condition
+row-tests given count n last ns i =
+    refuse 15 (suc i)
+    (either (not (kind-fits (offering given) (getD ns (4 * i) 0) (getD ns (4 * i + 3) 0))) (either (eqb n 0) (not (fits count last (row-at ns i)))))
     ∷ refuse 16 (suc i) (misplaced ns i)
     ∷ []
 
@@ -100,11 +123,25 @@ any-below (suc n) f = either (any-below n f) (f n)
 unfoldable pub aims : ℕ → Row → Bool
 aims x (hold y a b) = false
 aims x (move (transfer y z σ)) = eqb z x
+aims x (move (upload z σ)) = false
 
--- a copy may come to server x at τ: home at second 0, or by a transfer of τ
+-- an upload of τ to server x
+unfoldable pub puts : ℕ → ℕ → Row → Bool
+puts τ x (hold y a b) = false
+puts τ x (move (transfer y z σ)) = false
+puts τ x (move (upload z σ)) = both (eqb z x) (eqb σ τ)
+
+-- the first row from its place on is one
+unfoldable pub loaded : List ℕ → ℕ → ℕ → Bool
+loaded ns τ x =
+    let p = position ns (upload-key τ x) in
+    both (ltb p (row-count ns)) (puts τ x (row-at ns p))
+
+-- a copy may come to server x at τ: home at second 0, by a transfer of τ, or by an upload of τ
 unfoldable pub fed : ℕ → List ℕ → ℕ → ℕ → Bool
 fed home ns τ x =
-    either (both (eqb τ 0) (eqb x home)) (any-below (number-of ns τ) (λ j. aims x (row-at ns (first-of ns τ + j))))
+    either (both (eqb τ 0) (eqb x home))
+    (either (any-below (number-of ns τ) (λ j. aims x (row-at ns (first-of ns τ + j)))) (loaded ns τ x))
 
 -- a hold of server x that begins at τ
 unfoldable pub starts : ℕ → ℕ → Row → Bool
@@ -144,11 +181,11 @@ hold-test home ns low i =
 unfoldable pub transfer-test : List ℕ → ℕ → List Condition
 transfer-test ns late = refuse 17 (suc late) (ltb late (row-count ns)) ∷ []
 
--- each hold, then the transfers
+-- each hold, then the transfers; an upload asks for no copy
 unfoldable pub copy-tests : ℕ → ℕ → List ℕ → List Condition
 copy-tests count home ns =
     let holds = first-of ns 0 in
-    let rest = row-count ns - holds in
+    let rest = first-upload ns 0 - holds in
     each (hold-test home ns (starved count home ns holds rest)) holds ++ transfer-test ns (unbacked count home ns holds rest)
 
 -- ---- 18
@@ -165,8 +202,8 @@ unfoldable pub serve-test : List ℕ → List ℕ → ℕ → List Condition
 serve-test log ns i = refuse 18 (suc i) (not (served log ns i)) ∷ []
 
 -- 14, then each row's 15 and 16, each row's 17, each request's 18
-unfoldable pub schedule-tests : List ℕ → List ℕ → List Condition
-schedule-tests log ns =
+unfoldable pub schedule-tests : Bool → List ℕ → List ℕ → List Condition
+schedule-tests given log ns =
     refuse 14 0 (not (eqb (length ns % 4) 0))
-    ∷ (each (row-tests (server-count log) (request-count log) (requests-in log .time (request-count log)) ns) (row-count ns)
+    ∷ (each (row-tests given (server-count log) (request-count log) (requests-in log .time (request-count log)) ns) (row-count ns)
     ++ (copy-tests (server-count log) (home-of log) ns ++ each (serve-test log ns) (request-count log)))

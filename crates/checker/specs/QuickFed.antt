@@ -14,18 +14,19 @@ use Rattle.base.specs.Refusals.{refuse, first}
 use Rattle.base.specs.RefusalLaws.{first-met}
 use Rattle.base.specs.ChoiceLaws.{both-true, either-true}
 use Rattle.model.specs.Requests.{Requests}
-use Rattle.model.specs.Schedule.{hold, move, transfer, Stands, at-home, held, arrived}
+use Rattle.model.specs.Schedule.{hold, move, transfer, Stands, at-home, held, arrived, uploaded}
 use Rattle.model.specs.Standing.{stands}
 use Rattle.model.specs.StandingLaws.{stands-sound}
 use Rattle.model.specs.RowForm.{row-at, rows-of}
-use Rattle.model.specs.RowLaws.{member-row}
+use Rattle.model.specs.RowLaws.{fits-hold, row-member, member-row}
 use Rattle.model.specs.Checking.{row-count, backed, copy-condition}
 use Rattle.checker.specs.Reading.{server-of, second-of, target-of}
 use Rattle.checker.specs.Search.{hold-key, position}
 use Rattle.checker.specs.KeyLaws.{Shaped}
-use Rattle.checker.specs.Quick.{covers, first-of, number-of, standing-at, any-below, aims, fed, starts, unfed, starved, hold-test}
+use Rattle.checker.specs.Quick.{covers, first-of, number-of, first-upload, standing-at, any-below, aims, loaded, fed, starts, unfed, starved, hold-test}
 use Rattle.checker.specs.AnyLaws.{any-is, any-of, either-last, same-test}
 use Rattle.checker.specs.QuickStanding.{in-second}
+use Rattle.checker.specs.QuickUploads.{loaded-of, loaded-is}
 use Rattle.checker.specs.QuickHolds.{unfed-by, starved-first, starved-one, starting, there, hold-uncovered, hold-agrees, hold-position, first-within, hold-row, second-row}
 
 -- ---- the hold that a set leaves without a copy
@@ -70,7 +71,7 @@ aims-own x y τ = eq-eqb x x refl
 module _ (count last : ℕ) (ns : List ℕ) (s : Shaped count last ns) (home : ℕ) (inside : home < count) where
   -- the first starved hold
   abbrev pub low : ℕ
-  low = starved count home ns (first-of ns 0) (row-count ns - first-of ns 0)
+  low = starved count home ns (first-of ns 0) (first-upload ns 0 - first-of ns 0)
 
   -- where a copy stands at a hold's start, one may come there
   stands-fed : (x a b i : ℕ) → i < row-count ns → row-at ns i ≡ hold x a b → Stands home (rows-of ns) x a → fed home ns a x ≡ true
@@ -84,14 +85,18 @@ module _ (count last : ℕ) (ns : List ℕ) (s : Shaped count last ns) (home : �
       let (j, h, d) = member-row ns (row-count ns) m in
       let (f, g) = in-second count last ns s a y x j h (sym d) in
       let k : first-of ns a + (j - first-of ns a) ≡ j = omega arith in
-      either-last (both (eqb a 0) (eqb x home)) (any-below (number-of ns a) (λ j. aims x (row-at ns (first-of ns a + j))))
-      (any-of (number-of ns a) (λ j. aims x (row-at ns (first-of ns a + j))) (j - first-of ns a) (omega arith) (rw (k, ← d) (aims-own x y a)))
+      either-last (both (eqb a 0) (eqb x home)) _
+      (rw (any-of (number-of ns a) (λ j. aims x (row-at ns (first-of ns a + j))) (j - first-of ns a) (omega arith) (rw (k, ← d) (aims-own x y a))))
+  stands-fed x a b i l e (uploaded m) =
+      let (j, h, d) = member-row ns (row-count ns) m in
+      either-last (both (eqb a 0) (eqb x home)) _ (either-last (any-below (number-of ns a) (λ j. aims x (row-at ns (first-of ns a + j)))) (loaded ns a x)
+      (loaded-of count last ns s a x j h (sym d)))
 
   -- the first starved hold has no copy at its start
   low-none : (x a b i : ℕ) → i ≡ low → i < row-count ns → row-at ns i ≡ hold x a b → stands count home (rows-of ns) x a ≡ false
-  low-none x a b i z l e = go (starved-one count home ns (first-of ns 0) (row-count ns - first-of ns 0) (rw z at l))
+  low-none x a b i z l e = go (starved-one count home ns (first-of ns 0) (first-upload ns 0 - first-of ns 0) (rw z at l))
     where
-      go : (j : ℕ) × (j < row-count ns - first-of ns 0) × (low ≡ unfed-by count home ns (first-of ns 0) j) → stands count home (rows-of ns) x a ≡ false
+      go : (j : ℕ) × (j < first-upload ns 0 - first-of ns 0) × (low ≡ unfed-by count home ns (first-of ns 0) j) → stands count home (rows-of ns) x a ≡ false
       go (j, h, d) =
           let r = row-at ns (first-of ns 0 + j) in
           let w = standing-at count home ns (second-of r) in
@@ -105,30 +110,39 @@ module _ (count last : ℕ) (ns : List ℕ) (s : Shaped count last ns) (home : �
 
   -- a hold before it, to which a copy may come, has one
   fed-stands : (x a b i : ℕ) → i < row-count ns → row-at ns i ≡ hold x a b → i < low → fed home ns a x ≡ true → stands count home (rows-of ns) x a ≡ true
-  unfolding fed second-of target-of
-  fed-stands x a b i l e h f = go (either-true (both (eqb a 0) (eqb x home)) (any-below (number-of ns a) (λ j. aims x (row-at ns (first-of ns a + j)))) f)
+  unfolding fed second-of target-of rows-of row-count
+  fed-stands x a b i l e h f = go (either-true (both (eqb a 0) (eqb x home)) (either (any-below (number-of ns a) aim) (loaded ns a x)) f)
     where
-      by : (k y : ℕ) → k < row-count ns - first-of ns 0 → row-at ns (first-of ns 0 + k) ≡ move (transfer y x a)
+      aim : ℕ → Bool
+      aim j = aims x (row-at ns (first-of ns a + j))
+
+      by : (k y : ℕ) → k < first-upload ns 0 - first-of ns 0 → row-at ns (first-of ns 0 + k) ≡ move (transfer y x a)
           → (has (standing-at count home ns a) x ≡ true) ⊎ (has (standing-at count home ns a) x ≡ false) → stands count home (rows-of ns) x a ≡ true
       by k y g r (inl t) = sym (hold-agrees count last ns s home inside x a b i l e) ∙ t
       by k y g r (inr t) =
           let u : unfed ns (standing-at count home ns a) a x ≡ i =
           unfed-found ns (standing-at count home ns a) a x i t (hold-position count last ns s home inside x a b i l e) (rw e (starts-own x a b)) in
           let v : low ≤ unfed ns (standing-at count home ns a) a x =
-          rw r at (starved-first count home ns (first-of ns 0) (row-count ns - first-of ns 0) k g) in
+          rw r at (starved-first count home ns (first-of ns 0) (first-upload ns 0 - first-of ns 0) k g) in
           absurd (omega (arith, u, v))
 
-      go : (both (eqb a 0) (eqb x home) ≡ true) ⊎ (any-below (number-of ns a) (λ j. aims x (row-at ns (first-of ns a + j))) ≡ true)
-          → stands count home (rows-of ns) x a ≡ true
-      go (inl t) =
-          let (p, q) = both-true (eqb a 0) (eqb x home) t in
-          rw (eqb-true a 0 p, eqb-true x home q) (there count last ns s home inside at-home)
-      go (inr t) =
-          let (j, m, g) = any-is (number-of ns a) (λ j. aims x (row-at ns (first-of ns a + j))) t in
-          let (y, c, r, p, q) = second-row count last ns s home inside a j m in
+      moved : (any-below (number-of ns a) aim ≡ true) ⊎ (loaded ns a x ≡ true) → stands count home (rows-of ns) x a ≡ true
+      moved (inl t) =
+          let (j, m, g) = any-is (number-of ns a) aim t in
+          let (u, v, w) = fits-hold count last x a b (rw e at (s .fit-at i l)) in
+          let (y, c, r, p, q) = second-row count last ns s home inside a j (omega arith) m in
           let d : c ≡ x = aiming x y c a (rw r at g) in
           let k : first-of ns 0 + (first-of ns a + j - first-of ns 0) ≡ first-of ns a + j = omega arith in
           by (first-of ns a + j - first-of ns 0) y (omega arith) (ap (row-at ns) k ∙ r ∙ ap (λ (v : ℕ). move (transfer y v a)) d) (true-or-false (has (standing-at count home ns a) x))
+      moved (inr t) =
+          let (j, m, r) = loaded-is count last ns s a x t in
+          there count last ns s home inside (uploaded (rw r at (row-member ns (row-count ns) j m)))
+
+      go : (both (eqb a 0) (eqb x home) ≡ true) ⊎ (either (any-below (number-of ns a) aim) (loaded ns a x) ≡ true) → stands count home (rows-of ns) x a ≡ true
+      go (inl t) =
+          let (p, q) = both-true (eqb a 0) (eqb x home) t in
+          rw (eqb-true a 0 p, eqb-true x home q) (there count last ns s home inside at-home)
+      go (inr t) = moved (either-true (any-below (number-of ns a) aim) (loaded ns a x) t)
 
   -- 17 for the first starved hold
   pub low-refused : first (hold-test home ns low low) ≡ Refused (record { number = 17; place = suc low })

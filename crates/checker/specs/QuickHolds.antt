@@ -10,17 +10,17 @@ use borrow.Author.Tests.{eqb-true, lt-ltb, le-ltb}
 use Rattle.base.specs.Choice.{le-or-lt, same-or-not, true-or-false, not-both}
 use Rattle.base.specs.Sets.{has}
 use Rattle.base.specs.ChoiceLaws.{both-true}
-use Rattle.model.specs.Schedule.{Row, hold, move, transfer, Stands}
+use Rattle.model.specs.Schedule.{Row, hold, move, transfer, upload, Stands}
 use Rattle.model.specs.Standing.{stands}
 use Rattle.model.specs.StandingLaws.{stands-complete}
 use Rattle.model.specs.RowForm.{row-at, rows-of}
 use Rattle.model.specs.RowLaws.{fits-hold, fits-move, member-row}
 use Rattle.model.specs.Checking.{row-count}
 use Rattle.checker.specs.Reading.{second-of, target-of}
-use Rattle.checker.specs.Search.{hold-key, second-key, key, position, In-order}
+use Rattle.checker.specs.Search.{hold-key, second-key, upload-key, key, position}
 use Rattle.checker.specs.KeyLaws.{Shaped, end-key, keys-rise, keys-up}
-use Rattle.checker.specs.SearchLaws.{position-most, before-position, from-position}
-use Rattle.checker.specs.Quick.{covers, first-of, number-of, standing-at, any-below, starts, unfed, lower, starved}
+use Rattle.checker.specs.SearchLaws.{position-most, before-position, from-position, position-up, own-position}
+use Rattle.checker.specs.Quick.{covers, first-of, number-of, first-upload, standing-at, any-below, starts, unfed, lower, starved}
 use Rattle.checker.specs.AnyLaws.{any-is}
 use Rattle.checker.specs.QuickReach.{Covering, covering}
 use Rattle.checker.specs.QuickStanding.{standing-agrees}
@@ -116,19 +116,8 @@ module _ (count last : ℕ) (ns : List ℕ) (s : Shaped count last ns) (home : �
 
   -- the search for its start finds it
   pub hold-position : (x a b i : ℕ) → i < row-count ns → row-at ns i ≡ hold x a b → position ns (hold-key x a) ≡ i
-  unfolding key hold-key In-order
-  hold-position x a b i l e = go (le-or-lt (position ns (hold-key x a)) i) (same-or-not (position ns (hold-key x a)) i)
-    where
-      here : key (row-at ns i) ≡ 4194304 * x + a
-      here = ap key e
-
-      go : (position ns (hold-key x a) ≤ i) ⊎ (i < position ns (hold-key x a)) → (position ns (hold-key x a) ≡ i) ⊎ (position ns (hold-key x a) ≢ i)
-          → position ns (hold-key x a) ≡ i
-      go (inl d) (inl z) = z
-      go (inl d) (inr z) =
-          let p = position ns (hold-key x a) in
-          absurd (omega (arith, here, from-position ns (keys-up count last ns s) (hold-key x a) p (omega arith) (omega arith), keys-up count last ns s p i (omega arith) l))
-      go (inr d) z = absurd (omega (arith, here, before-position ns (hold-key x a) i d))
+  unfolding key
+  hold-position x a b i l e = own-position ns (keys-up count last ns s) (hold-key x a) i l (ap key e)
 
   -- ---- which rows are holds, and which are transfers of a second
 
@@ -136,9 +125,18 @@ module _ (count last : ℕ) (ns : List ℕ) (s : Shaped count last ns) (home : �
   unfolding first-of
   first-within τ = position-most ns (second-key τ)
 
+  -- the first transfer is not after the first upload
+  pub transfers-first : first-of ns 0 ≤ first-upload ns 0
+  unfolding first-of first-upload second-key upload-key
+  transfers-first = position-up ns (keys-up count last ns s) (second-key 0) (upload-key 0 0) (omega arith)
+
+  pub upload-within : first-upload ns 0 ≤ row-count ns
+  unfolding first-upload
+  upload-within = position-most ns (upload-key 0 0)
+
   -- before the first transfer all rows are holds
   pub hold-row : (i : ℕ) → i < first-of ns 0 → (x : ℕ) × (a : ℕ) × (b : ℕ) × (row-at ns i ≡ hold x a b)
-  unfolding first-of key second-key
+  unfolding first-of key second-key upload-key
   hold-row i l = go (row-at ns i) refl
     where
       go : (r : Row) → row-at ns i ≡ r → (x : ℕ) × (a : ℕ) × (b : ℕ) × (row-at ns i ≡ hold x a b)
@@ -146,24 +144,38 @@ module _ (count last : ℕ) (ns : List ℕ) (s : Shaped count last ns) (home : �
       go (move (transfer y x τ)) e =
           let k : key (row-at ns i) ≡ 268435456 + 4096 * τ + 64 * y + x = ap key e in
           absurd (omega (arith, before-position ns (second-key 0) i l))
+      go (move (upload x τ)) e =
+          let k : key (row-at ns i) ≡ 34359738368 + 4097 * τ + 64 * x = ap key e in
+          absurd (omega (arith, before-position ns (second-key 0) i l))
 
-  -- from it on all are transfers
-  pub transfer-row : (i : ℕ) → first-of ns 0 ≤ i → i < row-count ns → (y : ℕ) × (x : ℕ) × (τ : ℕ) × (row-at ns i ≡ move (transfer y x τ))
-  unfolding first-of key hold-key second-key
+  -- from it on, up to the first upload, all are transfers
+  pub transfer-row : (i : ℕ) → first-of ns 0 ≤ i → i < first-upload ns 0 → (y : ℕ) × (x : ℕ) × (τ : ℕ) × (row-at ns i ≡ move (transfer y x τ))
+  unfolding first-of first-upload key hold-key second-key upload-key
   transfer-row i l h = go (row-at ns i) refl
     where
+      inside-rows : i < row-count ns
+      inside-rows = omega (arith, position-most ns (upload-key 0 0))
+
       go : (r : Row) → row-at ns i ≡ r → (y : ℕ) × (x : ℕ) × (τ : ℕ) × (row-at ns i ≡ move (transfer y x τ))
       go (hold x a b) e =
           let k : key (row-at ns i) ≡ 4194304 * x + a = ap key e in
-          let (p, q, t) = fits-hold count last x a b (rw e at (s .fit-at i h)) in
-          absurd (omega (arith, s .few, s .early, from-position ns (keys-up count last ns s) (second-key 0) i l h))
+          let (p, q, t) = fits-hold count last x a b (rw e at (s .fit-at i inside-rows)) in
+          absurd (omega (arith, s .few, s .early, from-position ns (keys-up count last ns s) (second-key 0) i l inside-rows))
       go (move (transfer y x τ)) e = (y, x, τ, e)
+      go (move (upload x τ)) e =
+          let k : key (row-at ns i) ≡ 34359738368 + 4097 * τ + 64 * x = ap key e in
+          absurd (omega (arith, before-position ns (upload-key 0 0) i h))
 
-  -- the rows of a second are transfers of it
-  pub second-row : (τ j : ℕ) → j < number-of ns τ
-      → (y : ℕ) × (x : ℕ) × (row-at ns (first-of ns τ + j) ≡ move (transfer y x τ)) × (first-of ns 0 ≤ first-of ns τ + j) × (first-of ns τ + j < row-count ns)
-  unfolding first-of number-of key second-key
-  second-row τ j l = go (le-or-lt (position ns (second-key 0)) i) (transfer-row i)
+  -- the transfers of a second that a log may have are transfers of it
+  pub second-row : (τ j : ℕ) → τ ≤ last → j < number-of ns τ
+      → (y : ℕ) × (x : ℕ) × (row-at ns (first-of ns τ + j) ≡ move (transfer y x τ)) × (first-of ns 0 ≤ first-of ns τ + j) × (first-of ns τ + j < first-upload ns 0)
+  unfolding first-of number-of first-upload key second-key upload-key
+  second-row τ j early l =
+      let (y, x, σ, e) = transfer-row i before after in
+      let k : key (row-at ns i) ≡ 268435456 + 4096 * σ + 64 * y + x = ap key e in
+      let f = fits-move count last y x σ (rw e at (s .fit-at i inside-rows)) in
+      let same : σ ≡ τ = omega (arith, s .few, f .0, f .1, low, high) in
+      (y, x, e ∙ ap (λ (z : ℕ). move (transfer y x z)) same, before, after)
     where
       i : ℕ
       i = position ns (second-key τ) + j
@@ -177,13 +189,8 @@ module _ (count last : ℕ) (ns : List ℕ) (s : Shaped count last ns) (home : �
       high : key (row-at ns i) < second-key (suc τ)
       high = before-position ns (second-key (suc τ)) i (omega arith)
 
-      go : (position ns (second-key 0) ≤ i) ⊎ (i < position ns (second-key 0))
-          → (position ns (second-key 0) ≤ i → i < row-count ns → (y : ℕ) × (x : ℕ) × (σ : ℕ) × (row-at ns i ≡ move (transfer y x σ)))
-          → (y : ℕ) × (x : ℕ) × (row-at ns i ≡ move (transfer y x τ)) × (position ns (second-key 0) ≤ i) × (i < row-count ns)
-      go (inl d) r =
-          let (y, x, σ, e) = r d inside-rows in
-          let k : key (row-at ns i) ≡ 268435456 + 4096 * σ + 64 * y + x = ap key e in
-          let f = fits-move count last y x σ (rw e at (s .fit-at i inside-rows)) in
-          let same : σ ≡ τ = omega (arith, s .few, f .0, f .1, low, high) in
-          (y, x, e ∙ ap (λ (z : ℕ). move (transfer y x z)) same, d, inside-rows)
-      go (inr d) r = absurd (omega (arith, low, before-position ns (second-key 0) i d))
+      before : position ns (second-key 0) ≤ i
+      before = omega (arith, position-up ns (keys-up count last ns s) (second-key 0) (second-key τ) (omega arith))
+
+      after : i < position ns (upload-key 0 0)
+      after = omega (arith, position-up ns (keys-up count last ns s) (second-key (suc τ)) (upload-key 0 0) (omega (arith, s .early)))

@@ -1,5 +1,5 @@
 -- For well-formed rows a search finds the hold that keeps a copy at a server up to a second, if there is one.
-use mathlib.Core.Bool.{true, false, not}
+use mathlib.Core.Bool.{Bool, true, false, not}
 use mathlib.Core.List.{List}
 use mathlib.Core.Logic.{_⊎_, inl, inr, _≢_}
 use mathlib.Core.Path.{_≡_, refl, sym, ap, _∙_}
@@ -18,9 +18,10 @@ use Rattle.model.specs.Checking.{row-count}
 use Rattle.checker.specs.Search.{hold-key, key, position}
 use Rattle.checker.specs.KeyLaws.{Shaped, end-key, keys-rise, keys-up}
 use Rattle.checker.specs.SearchLaws.{position-most, before-position, from-position}
-use Rattle.checker.specs.Quick.{join, covers, reaches, gather, begun, any-below}
-use Rattle.checker.specs.AnyLaws.{same-test, any-is, any-of}
+use Rattle.checker.specs.Quick.{join, covers, puts, reaches, gather, begun, uploaded-to, any-below}
+use Rattle.checker.specs.AnyLaws.{same-test, any-is, any-of, any-either}
 use Rattle.checker.specs.QuickSets.{both-none, through-has, gather-has}
+use Rattle.checker.specs.QuickUploads.{uploaded-has}
 
 -- a row that covers server x at τ is a hold there, which began before τ and ends at τ or later
 pub record Covering (τ x : ℕ) (r : Row) : Type 0 where
@@ -37,6 +38,14 @@ covering τ x (hold y a b) e =
     let (s, t) = both-true (ltb a τ) (leb τ b) q in
     record { from = a; to = b; is = ap (λ (z : ℕ). hold z a b) (eqb-true y x p); began = ltb-true a τ s; lasts = leb-true τ b t }
 covering τ x (move v) e = absurd (not-both e refl)
+
+-- two tests after a third, in the other order
+either-swap : (a b c : Bool) → either (either a b) c ≡ either a (either c b)
+either-swap true b c = refl
+either-swap false true true = refl
+either-swap false true false = refl
+either-swap false false true = refl
+either-swap false false false = refl
 
 module _ (count last : ℕ) (ns : List ℕ) (s : Shaped count last ns) (τ : ℕ) where
   -- what the search finds is such a row
@@ -114,15 +123,22 @@ module _ (count last : ℕ) (ns : List ℕ) (s : Shaped count last ns) (τ : ℕ
     unfolding begun join
     begun-is = rw (lt-ltb home 64 (omega (arith, s .few)))
 
-    -- of those the search for some servers finds what all rows give
-    pub before-agrees : (some k : ℕ) → Known some k → has (gather ns τ some (begun home τ) count) k ≡ has (reached home (rows-of ns) τ) k
+    -- of those the search for some servers, with the uploads, finds what all rows give
+    pub before-agrees : (some k : ℕ) → Known some k → has (gather ns τ some (uploaded-to home ns τ) count) k ≡ has (reached home (rows-of ns) τ) k
     unfolding reached rows-of row-count
     before-agrees some k known =
-        rw begun-is
-        (gather-has ns τ some (pick (eqb τ 0) (put 0 home) 0) k count (s .few)
-        ∙ ap (either (has (pick (eqb τ 0) (put 0 home) 0) k)) (go known)
+        gather-has ns τ some (uploaded-to home ns τ) k count (s .few)
+        ∙ rw (uploaded-has count last ns s home τ k, go known, begun-is)
+        (either-swap (has (pick (eqb τ 0) (put 0 home) 0) k) (any-below (row-count ns) uploads) (any-below (row-count ns) holds)
+        ∙ sym (ap (either (has (pick (eqb τ 0) (put 0 home) 0) k)) (any-either (row-count ns) holds uploads))
         ∙ sym (through-has τ (pick (eqb τ 0) (put 0 home) 0) k ns (row-count ns)))
       where
+        holds : ℕ → Bool
+        holds i = covers τ k (row-at ns i)
+
+        uploads : ℕ → Bool
+        uploads i = puts τ k (row-at ns i)
+
         go : Known some k → both (ltb k count) (both (has some k) (reaches ns τ k)) ≡ any-below (row-count ns) (λ i. covers τ k (row-at ns i))
         go (inl m) = rw m (sym (same-cover k))
         go (inr u) = rw (not-found k u, u, both-none (has some k)) (both-none (ltb k count))

@@ -1,21 +1,21 @@
 -- For well-formed rows a pass over the rows of one second is a pass over all rows, and passes until nothing is added are `rounds`.
 use mathlib.Core.Bool.{Bool, true, false}
 use mathlib.Core.List.{List}
-use mathlib.Core.Logic.{inl, inr, _≢_}
+use mathlib.Core.Logic.{_≢_}
 use mathlib.Core.Path.{_≡_, refl, sym, ap, _∙_}
 use native.Mathlib.Omega.{arith}
 use Prim.Native.Nat.{ℕ, zero, suc, _+_, _-_, _*_, _≤_, _<_}
 use lib.Dec.{eqb}
 use borrow.Author.Tests.{eqb-true, lt-ltb, ne-eqb}
-use Rattle.base.specs.Choice.{pick, le-or-lt}
-use Rattle.model.specs.Schedule.{Row, hold, move, transfer}
+use Rattle.base.specs.Choice.{pick}
+use Rattle.model.specs.Schedule.{Row, hold, move, transfer, upload}
 use Rattle.model.specs.Standing.{arrive, through, rounds}
 use Rattle.model.specs.RowForm.{row-at, rows-upto, rows-of, fits}
 use Rattle.model.specs.RowLaws.{fits-move}
 use Rattle.model.specs.Checking.{row-count}
 use Rattle.checker.specs.Search.{second-key, key, position}
 use Rattle.checker.specs.KeyLaws.{Shaped, keys-up}
-use Rattle.checker.specs.SearchLaws.{position-most, before-position, from-position}
+use Rattle.checker.specs.SearchLaws.{position-most, before-position, from-position, position-up}
 use Rattle.checker.specs.Quick.{join, arrival, along, settle, first-of, number-of, second-pass}
 use Rattle.checker.specs.QuickSets.{through-more}
 
@@ -46,12 +46,14 @@ settle-rounds (suc n) τ rows f h w = go (eqb (f w) w) refl (settle-rounds n τ 
 idle : (τ : ℕ) (r : Row) → ((y x σ : ℕ) → r ≡ move (transfer y x σ) → σ ≢ τ) → (w : ℕ) → arrive τ w r ≡ w
 unfolding arrive
 idle τ (hold x a b) h w = refl
+idle τ (move (upload x σ)) h w = refl
 idle τ (move (transfer y x σ)) h w = rw (ne-eqb σ τ (h y x σ refl))
 
 -- the step with room in the word is the step
 arrival-is : (count last τ w : ℕ) (r : Row) → count ≤ 64 → fits count last r ≡ true → arrival τ w r ≡ arrive τ w r
 unfolding arrival arrive join
 arrival-is count last τ w (hold x a b) l e = refl
+arrival-is count last τ w (move (upload x σ)) l e = refl
 arrival-is count last τ w (move (transfer y x σ)) l e = rw (lt-ltb x 64 (omega (arith, fits-move count last y x σ e .1)))
 
 module _ (count last : ℕ) (ns : List ℕ) (s : Shaped count last ns) (τ w : ℕ) where
@@ -94,14 +96,7 @@ module _ (count last : ℕ) (ns : List ℕ) (s : Shaped count last ns) (τ w : �
   -- the first after is not before the first
   in-order : start ≤ stop
   unfolding second-key
-  in-order = elim (le-or-lt start stop) [
-    | inl l ↦ l
-    | inr l ↦ absurd (omega (
-      arith,
-      before-position ns (second-key τ) stop l,
-      from-position ns (keys-up count last ns s) (second-key (suc τ)) stop (omega arith) (omega (arith, position-most ns (second-key τ))),
-    ))
-  ]
+  in-order = position-up ns (keys-up count last ns s) (second-key τ) (second-key (suc τ)) (omega arith)
 
   -- the rows of τ
   run : (n : ℕ) → start + n ≤ row-count ns → along ns τ start w n ≡ upto (start + n)

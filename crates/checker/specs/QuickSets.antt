@@ -1,4 +1,4 @@
--- Membership in the sets that the code builds: the sources of some rows, the holds that a search finds, the holds of all rows.
+-- Membership in the sets that the code builds: the servers of some rows, the holds that a search finds, the holds and uploads of all rows.
 use mathlib.Core.Bool.{Bool, true, false}
 use mathlib.Core.List.{List, [], _∷_, _++_}
 use mathlib.Core.Logic.{_⊎_, inl, inr, _≢_}
@@ -10,17 +10,23 @@ use borrow.Author.Tests.{eq-eqb, ne-eqb, lt-ltb, le-ltb}
 use Rattle.base.specs.Choice.{pick, both, either, le-or-lt, same-or-not}
 use Rattle.base.specs.Sets.{has, put}
 use Rattle.base.specs.SetLaws.{has-put, has-put-other}
-use Rattle.model.specs.Schedule.{Row, hold, move}
+use Rattle.base.specs.ChoiceLaws.{both-end}
+use Rattle.model.specs.Schedule.{Row, hold, move, transfer, upload}
 use Rattle.model.specs.Standing.{reach, through}
 use Rattle.model.specs.RowForm.{row-at, rows-upto}
 use Rattle.checker.specs.Reading.{server-of}
-use Rattle.checker.specs.Quick.{join, covers, reaches, sources, with-hold, gather, any-below}
+use Rattle.checker.specs.Quick.{join, covers, puts, reaches, servers, with-hold, gather, any-below}
 use Rattle.checker.specs.AnyLaws.{either-last, either-none}
 
 -- both tests, where the second fails
 pub both-none : (a : Bool) → both a false ≡ false
 both-none true = refl
 both-none false = refl
+
+-- one or another, or a third
+either-assoc : (a b c : Bool) → either (either a b) c ≡ either a (either b c)
+either-assoc true b c = refl
+either-assoc false b c = refl
 
 -- ---- a server put in by a test
 
@@ -33,31 +39,25 @@ put-has true w y x = go (same-or-not y x)
     go (inl e) = rw (eq-eqb y x e, e) (has-put w x ∙ sym (either-last (has w x) true refl))
     go (inr d) = rw (ne-eqb y x d) (has-put-other w y x (λ e. d (sym e)) ∙ sym (either-none (has w x)))
 
--- ---- the sources of some rows
+-- ---- the servers of some rows
 
--- one more server, which may be past a word's room
-join-keeps : (w x k : ℕ) → has w k ≡ true → has (join w x) k ≡ true
+-- a server for which a word has room
+join-has : (w y x : ℕ) → y < 64 → has (join w y) x ≡ either (has w x) (eqb y x)
 unfolding join
-join-keeps w x k e = go (ltb x 64)
-  where
-    go : (t : Bool) → has (pick t (put w x) w) k ≡ true
-    go t = put-has t w x k ∙ rw e
+join-has w y x l = rw (lt-ltb y 64 l) (put-has true w y x ∙ ap (either (has w x)) (both-end (eqb y x)))
 
-join-has : (w x : ℕ) → x < 64 → has (join w x) x ≡ true
-unfolding join
-join-has w x l = rw (lt-ltb x 64 l) (has-put w x)
+-- those of them and those of the start
+pub servers-has : (ns : List ℕ) (from w n x : ℕ) → ((j : ℕ) → j < n → server-of (row-at ns (from + j)) < 64)
+    → has (servers ns from w n) x ≡ either (has w x) (any-below n (λ j. eqb (server-of (row-at ns (from + j))) x))
+unfolding servers any-below
+servers-has ns from w zero x h = sym (either-none (has w x))
+servers-has ns from w (suc n) x h =
+    let y = server-of (row-at ns (from + n)) in
+    join-has (servers ns from w n) y x (h n (omega arith))
+    ∙ ap (λ (t : Bool). either t (eqb y x)) (servers-has ns from w n x (λ j l. h j (omega arith)))
+    ∙ either-assoc (has w x) (any-below n (λ j. eqb (server-of (row-at ns (from + j))) x)) (eqb y x)
 
-pub sources-has : (ns : List ℕ) (from n j x : ℕ) → j < n → server-of (row-at ns (from + j)) ≡ x → x < 64 → has (sources ns from n) x ≡ true
-unfolding sources
-sources-has ns from zero j x l e h = absurd (omega arith)
-sources-has ns from (suc n) j x l e h = go (same-or-not j n) (sources-has ns from n j x)
-  where
-    go : (j ≡ n) ⊎ (j ≢ n) → (j < n → server-of (row-at ns (from + j)) ≡ x → x < 64 → has (sources ns from n) x ≡ true)
-        → has (join (sources ns from n) (server-of (row-at ns (from + n)))) x ≡ true
-    go (inl d) r = rw (← d, e) (join-has (sources ns from j) x h)
-    go (inr d) r = join-keeps (sources ns from n) (server-of (row-at ns (from + n))) x (r (omega arith) e h)
-
--- ---- the holds of all rows, one after the other
+-- ---- the holds and uploads of all rows, one after the other
 
 -- a step for each of some rows, and then for one more
 through-append : (f : ℕ → Row → ℕ) (w : ℕ) (xs ys : List Row) → through f w (xs ++ ys) ≡ through f (through f w xs) ys
@@ -70,25 +70,27 @@ pub through-more : (f : ℕ → Row → ℕ) (w : ℕ) (ns : List ℕ) (k : ℕ)
 unfolding rows-upto through
 through-more f w ns k = through-append f w (rows-upto ns k) (row-at ns k ∷ [])
 
--- a row's step adds the server that it covers
-reach-has : (τ w x : ℕ) (r : Row) → has (reach τ w r) x ≡ either (has w x) (covers τ x r)
-unfolding reach covers
-reach-has τ w x (hold y a b) = put-has (both (ltb a τ) (leb τ b)) w y x
-reach-has τ w x (move v) = sym (either-none (has w x))
+-- a row gives server x at τ: a hold that covers it, or an upload of τ
+abbrev pub gives : ℕ → ℕ → Row → Bool
+gives τ x r = either (covers τ x r) (puts τ x r)
 
-either-assoc : (a b c : Bool) → either (either a b) c ≡ either a (either b c)
-either-assoc true b c = refl
-either-assoc false b c = refl
+-- its step adds that server
+reach-has : (τ w x : ℕ) (r : Row) → has (reach τ w r) x ≡ either (has w x) (gives τ x r)
+unfolding reach covers puts
+reach-has τ w x (hold y a b) =
+    put-has (both (ltb a τ) (leb τ b)) w y x ∙ ap (either (has w x)) (sym (either-none (both (eqb y x) (both (ltb a τ) (leb τ b)))))
+reach-has τ w x (move (transfer y z σ)) = sym (either-none (has w x))
+reach-has τ w x (move (upload z σ)) = put-has (eqb σ τ) w z x
 
 pub through-has : (τ w x : ℕ) (ns : List ℕ) (k : ℕ)
-    → has (through (reach τ) w (rows-upto ns k)) x ≡ either (has w x) (any-below k (λ i. covers τ x (row-at ns i)))
+    → has (through (reach τ) w (rows-upto ns k)) x ≡ either (has w x) (any-below k (λ i. gives τ x (row-at ns i)))
 unfolding through rows-upto any-below
 through-has τ w x ns zero = sym (either-none (has w x))
 through-has τ w x ns (suc k) =
     ap (λ (v : ℕ). has v x) (through-more (reach τ) w ns k)
     ∙ reach-has τ (through (reach τ) w (rows-upto ns k)) x (row-at ns k)
-    ∙ ap (λ (t : Bool). either t (covers τ x (row-at ns k))) (through-has τ w x ns k)
-    ∙ either-assoc (has w x) (any-below k (λ i. covers τ x (row-at ns i))) (covers τ x (row-at ns k))
+    ∙ ap (λ (t : Bool). either t (gives τ x (row-at ns k))) (through-has τ w x ns k)
+    ∙ either-assoc (has w x) (any-below k (λ i. gives τ x (row-at ns i))) (gives τ x (row-at ns k))
 
 -- ---- a search for each server of some
 

@@ -3,14 +3,14 @@
 use mathlib.Core.Bool.{true}
 use mathlib.Core.List.{List, [], _∷_, List·Memᴰ, List·Memᴰ·head, List·Memᴰ·tail}
 use mathlib.Core.Logic.{_⊎_, inl, inr, _≢_}
-use mathlib.Core.Path.{_≡_, sym, ap, _∙_}
+use mathlib.Core.Path.{_≡_, refl, sym, ap, _∙_}
 use native.Mathlib.Omega.{arith}
 use Prim.Native.Nat.{ℕ, zero, suc, _+_, _-_, _*_, _≤_, _<_}
 use lib.Dec.{eqb}
-use borrow.Author.Tests.{ne-eqb}
+use borrow.Author.Tests.{eq-eqb, ne-eqb}
 use Rattle.base.specs.Choice.{pick, both, le-or-lt, same-or-not}
 use Rattle.base.specs.Sets.{has, put}
-use Rattle.model.specs.Schedule.{Row, hold, move, transfer}
+use Rattle.model.specs.Schedule.{Row, hold, move, transfer, upload}
 use Rattle.model.specs.Standing.{arrive, through, reached, rounds, standing, stands}
 use Rattle.model.specs.RowForm.{row-at, rows-of}
 use Rattle.model.specs.RowLaws.{fits-move, member-row}
@@ -18,9 +18,11 @@ use Rattle.model.specs.Checking.{row-count}
 use Rattle.checker.specs.Reading.{server-of}
 use Rattle.checker.specs.Search.{second-key, key, position}
 use Rattle.checker.specs.KeyLaws.{Shaped, keys-up}
-use Rattle.checker.specs.SearchLaws.{before-position, from-position}
+use Rattle.checker.specs.SearchLaws.{position-most, before-position, from-position}
 use Rattle.checker.specs.Quick.{sources, first-of, number-of, before-transfers, second-pass, standing-at}
-use Rattle.checker.specs.QuickSets.{put-has, sources-has}
+use Rattle.checker.specs.AnyLaws.{any-of, either-last}
+use Rattle.checker.specs.QuickSets.{put-has, servers-has}
+use Rattle.checker.specs.QuickUploads.{server-below}
 use Rattle.checker.specs.QuickReach.{Known, before-agrees}
 use Rattle.checker.specs.QuickRounds.{settle-rounds, pass-through}
 
@@ -34,6 +36,7 @@ module _ (Some : ℕ → Type 0) (τ : ℕ) where
   arrive-agrees : (r : Row) → ((y x : ℕ) → r ≡ move (transfer y x τ) → Some y) → (u v : ℕ) → Agree u v → Agree (arrive τ u r) (arrive τ v r)
   unfolding arrive
   arrive-agrees (hold x a b) h u v g k s = g k s
+  arrive-agrees (move (upload x σ)) h u v g k s = g k s
   arrive-agrees (move (transfer y x σ)) h u v g k s = go (same-or-not σ τ)
     where
       go : (σ ≡ τ) ⊎ (σ ≢ τ) → has (pick (both (eqb σ τ) (has u y)) (put u x) u) k ≡ has (pick (both (eqb σ τ) (has v y)) (put v x) v) k
@@ -78,25 +81,34 @@ module _ (count last : ℕ) (ns : List ℕ) (s : Shaped count last ns) where
       ] in
       (low, omega arith)
 
+  -- the servers of those have room in a word
+  below : (τ j : ℕ) → j < number-of ns τ → server-of (row-at ns (first-of ns τ + j)) < 64
+  unfolding first-of number-of
+  below τ j l =
+      let i = position ns (second-key τ) + j in
+      let m : i < row-count ns = omega (arith, position-most ns (second-key (suc τ))) in
+      omega (arith, s .few, server-below count last (row-at ns i) (s .fit-at i m))
+
   -- and its source one of their sources
-  pub source-in : (τ y x i : ℕ) → i < row-count ns → row-at ns i ≡ move (transfer y x τ) → has (sources ns (first-of ns τ) (number-of ns τ)) y ≡ true
-  unfolding server-of
+  pub source-in : (τ y x i : ℕ) → i < row-count ns → row-at ns i ≡ move (transfer y x τ) → has (sources ns τ) y ≡ true
+  unfolding sources server-of
   source-in τ y x i l e =
       let (a, b) = in-second τ y x i l e in
       let m : first-of ns τ + (i - first-of ns τ) ≡ i = omega arith in
-      let f = fits-move count last y x τ (rw e at (s .fit-at i l)) in
-      sources-has ns (first-of ns τ) (number-of ns τ) (i - first-of ns τ) y (omega arith) (rw (m, e)) (omega (arith, s .few, f .0))
+      servers-has ns (first-of ns τ) 0 (number-of ns τ) y (below τ)
+      ∙ either-last (has 0 y) _
+      (any-of (number-of ns τ) (λ j. eqb (server-of (row-at ns (first-of ns τ + j))) y) (i - first-of ns τ) (omega arith) (rw (m, e) (eq-eqb y y refl)))
 
   module _ (home : ℕ) (inside : home < count) (τ : ℕ) where
     -- so of each such server the set says whether a copy stands there
-    pub standing-agrees : (k : ℕ) → Known count last ns s τ (sources ns (first-of ns τ) (number-of ns τ)) k
+    pub standing-agrees : (k : ℕ) → Known count last ns s τ (sources ns τ) k
         → has (standing-at count home ns τ) k ≡ stands count home (rows-of ns) k τ
     unfolding standing-at standing stands before-transfers rows-of row-count
     standing-agrees k known =
         ap (λ (w : ℕ). has w k) (settle-rounds count τ (rows-of ns) (second-pass ns τ) (pass-through count last ns s τ) (before-transfers count home ns τ))
-        ∙ rounds-agree (Known count last ns s τ (sources ns (first-of ns τ) (number-of ns τ))) τ count (rows-of ns) each-source
+        ∙ rounds-agree (Known count last ns s τ (sources ns τ)) τ count (rows-of ns) each-source
         (before-transfers count home ns τ) (reached home (rows-of ns) τ)
-        (λ j h. before-agrees count last ns s τ home inside (sources ns (first-of ns τ) (number-of ns τ)) j h) k known
+        (λ j h. before-agrees count last ns s τ home inside (sources ns τ) j h) k known
       where
-        each-source : (y x : ℕ) → List·Memᴰ (move (transfer y x τ)) (rows-of ns) → Known count last ns s τ (sources ns (first-of ns τ) (number-of ns τ)) y
+        each-source : (y x : ℕ) → List·Memᴰ (move (transfer y x τ)) (rows-of ns) → Known count last ns s τ (sources ns τ) y
         each-source y x m = let (i, l, e) = member-row ns (row-count ns) m in inl (source-in τ y x i l (sym e))

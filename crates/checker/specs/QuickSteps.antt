@@ -5,7 +5,7 @@ use mathlib.Core.Logic.{_≢_}
 use mathlib.Core.Path.{_≡_, refl, sym}
 use native.Mathlib.Omega.{arith}
 use Prim.Native.Nat.{ℕ, zero, suc, _+_, _-_, _≤_, _<_}
-use lib.Dec.{eqb, ltb}
+use lib.Dec.{eqb}
 use borrow.Author.Tests.{eq-eqb, ne-eqb, lt-ltb}
 use Rattle.base.specs.Choice.{pick, either}
 use Rattle.base.specs.Refusals.{refuse, first, or-else, from}
@@ -13,12 +13,13 @@ use Rattle.base.specs.RefusalLaws.{from-first}
 use Rattle.base.specs.declared.Verdict.{Verdict}
 use Rattle.base.specs.declared.Verdict.the-variants.{Passed, Refused}
 use Rattle.model.specs.RowForm.{row-at, fits, follows}
-use Rattle.model.specs.Checking.{misplaced}
+use Rattle.model.specs.Checking.{row-count, kind-fits, misplaced}
 use Rattle.checker.specs.declared.Quad.{Quad}
 use Rattle.checker.specs.Reading.{quad-at, as-row}
 use Rattle.checker.specs.ReadingLaws.{server-read}
-use Rattle.checker.specs.Search.{hold-key, second-key, position}
-use Rattle.checker.specs.Quick.{join, covers, reaches, sources, gather, begun, arrival, along, settle, first-of, number-of, before-transfers, second-pass, standing-at, row-tests, served, serve-test}
+use Rattle.checker.specs.Search.{hold-key, second-key, upload-key, position, In-order}
+use Rattle.checker.specs.SearchLaws.{position-most, position-up}
+use Rattle.checker.specs.Quick.{join, covers, reaches, servers, gather, begun, arrival, along, settle, first-of, number-of, first-upload, upload-number, sources, uploaded-to, before-transfers, second-pass, standing-at, offering, row-tests, served, serve-test}
 
 -- one more row of a second
 pub along-more : (ns : List ℕ) (t from start i w v : ℕ) (r : Quad) → from ≤ i → w ≡ along ns t from start (i - from)
@@ -29,20 +30,34 @@ along-more ns t from start i w v r h e d p =
     let m : from + (i - from) ≡ i = omega arith in
     rw (n, m, ← e) (rw d at p)
 
--- one more of their sources
-pub source-more : (ns : List ℕ) (from i w v : ℕ) (r : Quad) → from ≤ i → w ≡ sources ns from (i - from)
-    → r ≡ quad-at ns i → v ≡ join w (r .a) → v ≡ sources ns from (i + 1 - from)
-unfolding sources quad-at row-at
-source-more ns from i w v r h e d p =
+-- one more of their servers
+pub server-more : (ns : List ℕ) (from start i w v : ℕ) (r : Quad) → from ≤ i → w ≡ servers ns from start (i - from)
+    → r ≡ quad-at ns i → v ≡ join w (r .a) → v ≡ servers ns from start (i + 1 - from)
+unfolding servers quad-at row-at
+server-more ns from start i w v r h e d p =
     let n : i + 1 - from ≡ suc (i - from) = omega arith in
     let m : from + (i - from) ≡ i = omega arith in
     rw (n, m, ← e, server-read) (rw d at p)
 
+-- the uploads of a second; where the first of all is past the last row there is none
+pub uploads-none : (home : ℕ) (ns : List ℕ) → In-order ns → (t uploads start : ℕ) → uploads ≡ first-upload ns 0 → row-count ns ≤ uploads
+    → start ≡ begun home t → start ≡ uploaded-to home ns t
+unfolding uploaded-to first-upload upload-number upload-key servers
+uploads-none home ns up t uploads start p l e =
+    let z : position ns (upload-key t 64) - position ns (upload-key t 0) ≡ 0 =
+    omega (arith, position-most ns (upload-key t 64), position-up ns up (upload-key 0 0) (upload-key t 0) (omega arith)) in
+    rw z e
+
+pub uploads-read : (home : ℕ) (ns : List ℕ) (t from to start w : ℕ) → from ≡ position ns (upload-key t 0) → to ≡ position ns (upload-key t 64)
+    → start ≡ begun home t → w ≡ servers ns from start (to - from) → w ≡ uploaded-to home ns t
+unfolding uploaded-to first-upload upload-number
+uploads-read home ns t from to start w p q s e = simp (p, q, s) at e
+
 -- the set at a second, from its parts
 pub standing-read : (count home : ℕ) (ns : List ℕ) (t from to some start w v : ℕ) → from ≡ position ns (second-key t)
-    → to ≡ position ns (second-key (suc t)) → some ≡ sources ns from (to - from) → start ≡ begun home t → w ≡ gather ns t some start count
+    → to ≡ position ns (second-key (suc t)) → some ≡ servers ns from 0 (to - from) → start ≡ uploaded-to home ns t → w ≡ gather ns t some start count
     → v ≡ settle count (λ w. along ns t from w (to - from)) w → v ≡ standing-at count home ns t
-unfolding standing-at before-transfers second-pass first-of number-of
+unfolding standing-at before-transfers second-pass sources first-of number-of
 standing-read count home ns t from to some start w v p q m s g e = simp (g, m, s, p, q) at e
 
 -- a pass that adds nothing ends it; one that adds something is one of those that are left
@@ -79,11 +94,11 @@ misplaced-read ns (suc i) r s n p q =
     rw (lt-ltb 0 (suc i) (omega arith), rw d at p, q)
 
 -- 15, then 16, by the numbers that were read
-pub row-found : (count n last : ℕ) (ns : List ℕ) (i p : ℕ) (r : Quad) (m : Bool) → p ≡ suc i → r ≡ quad-at ns i
-    → m ≡ either (ltb 1 (r .kind)) (either (eqb n 0) (not (fits count last (as-row r))))
-    → first (row-tests count n last ns i) ≡ or-else (or-else Passed (refuse 15 p m)) (refuse 16 p (misplaced ns i))
+pub row-found : (given : Bool) (count n last : ℕ) (ns : List ℕ) (i p : ℕ) (r : Quad) (m : Bool) → p ≡ suc i → r ≡ quad-at ns i
+    → m ≡ either (not (kind-fits (offering given) (r .kind) (r .c))) (either (eqb n 0) (not (fits count last (as-row r))))
+    → first (row-tests given count n last ns i) ≡ or-else (or-else Passed (refuse 15 p m)) (refuse 16 p (misplaced ns i))
 unfolding row-tests quad-at row-at from
-row-found count n last ns i p r m d q e = rw (d, e, q) (sym (from-first (row-tests count n last ns i)))
+row-found given count n last ns i p r m d q e = rw (d, e, q) (sym (from-first (row-tests given count n last ns i)))
 
 -- one condition, which refuses where a test fails
 abbrev pub unless : Bool → ℕ → ℕ → Verdict

@@ -58,12 +58,12 @@ module _ (count home : ℕ) (ns : List ℕ) (from : ℕ) where
       (unbacked count home ns from n) (unbacked-where n (omega arith)))
 
   -- so it gives their verdict
-  pub transfers-first : (n : ℕ) → from + n ≤ row-count ns → first (each copy-test-on n) ≡ first (transfer-test ns (unbacked count home ns from n))
+  pub one-by-one : (n : ℕ) → from + n ≤ row-count ns → first (each copy-test-on n) ≡ first (transfer-test ns (unbacked count home ns from n))
   unfolding first each unbacked transfer-test copy-test
-  transfers-first zero l = rw (le-ltb (row-count ns) (row-count ns) (omega arith))
-  transfers-first (suc n) l =
+  one-by-one zero l = rw (le-ltb (row-count ns) (row-count ns) (omega arith))
+  one-by-one (suc n) l =
       each-suc copy-test-on n
-      ∙ ap (λ v. otherwise v (first (copy-test-on n))) (transfers-first n (omega arith))
+      ∙ ap (λ v. otherwise v (first (copy-test-on n))) (one-by-one n (omega arith))
       ∙ next-first (row-count ns) (from + n) (omega arith)
       (has (standing-at count home ns (second-of (row-at ns (from + n)))) (server-of (row-at ns (from + n))))
       (unbacked count home ns from n) (unbacked-where n (omega arith))

@@ -2,7 +2,7 @@
 use mathlib.Core.List.{List}
 use Prim.Native.Nat.{ℕ, _+_, _*_}
 use lib.ListN.{getD}
-use Rattle.model.specs.Schedule.{Row, hold, move, transfer}
+use Rattle.model.specs.Schedule.{Row, hold, move, transfer, upload}
 use Rattle.model.specs.RowForm.{row-of}
 use Rattle.checker.specs.declared.Quad.{Quad}
 
@@ -15,16 +15,19 @@ quad-at ns i =
 abbrev pub as-row : Quad → Row
 as-row r = row-of (r .kind) (r .a) (r .b) (r .c)
 
--- the server where a hold begins or a transfer leaves, and the second
+-- the server where a hold begins, a transfer leaves or an upload arrives, and the second
 unfoldable pub server-of : Row → ℕ
 server-of (hold x a b) = x
 server-of (move (transfer y x τ)) = y
+server-of (move (upload x τ)) = x
 
 unfoldable pub second-of : Row → ℕ
 second-of (hold x a b) = a
 second-of (move (transfer y x τ)) = τ
+second-of (move (upload x τ)) = τ
 
--- where a transfer arrives; of a hold, its third number
+-- where a transfer arrives; of another row, its third number
 unfoldable pub target-of : Row → ℕ
 target-of (hold x a b) = a
 target-of (move (transfer y x τ)) = x
+target-of (move (upload x τ)) = τ

@@ -4,7 +4,7 @@ use mathlib.Core.List.{List}
 use Prim.Native.Nat.{ℕ, _+_, _*_, _<_}
 use lib.Dec.{leb}
 use Rattle.base.specs.Sets.{lowest}
-use Rattle.model.specs.Schedule.{Row, hold, move, transfer}
+use Rattle.model.specs.Schedule.{Row, hold, move, transfer, upload}
 use Rattle.model.specs.RowForm.{row-at}
 use Rattle.model.specs.Checking.{row-count}
 
@@ -16,10 +16,15 @@ hold-key x τ = 4194304 * x + τ
 unfoldable pub second-key : ℕ → ℕ
 second-key τ = 268435456 + 4096 * τ
 
+-- the place of an upload of second τ to server x, after all transfers of seconds below 2 ^ 22; made up as a transfer's, second by second where x < 64
+unfoldable pub upload-key : ℕ → ℕ → ℕ
+upload-key τ x = 34359738368 + 4097 * τ + 64 * x
+
 -- the place of a row
 unfoldable pub key : Row → ℕ
 key (hold x a b) = hold-key x a
 key (move (transfer y x τ)) = second-key τ + 64 * y + x
+key (move (upload x τ)) = upload-key τ x
 
 -- is row i at place k or later
 unfoldable pub from-on : List ℕ → ℕ → ℕ → Bool

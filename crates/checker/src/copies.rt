@@ -10,14 +10,16 @@ ghost use Rattle.model.specs.RowForm.{row-at};
 ghost use Rattle.model.specs.Checking.{row-count};
 ghost use Rattle.checker.specs.Reading.{as-row, server-of, second-of};
 ghost use Rattle.checker.specs.Search.{In-order};
-ghost use Rattle.checker.specs.Quick.{standing-at, any-below, aims, fed, starts, unfed, lower, starved, unbacked, hold-test, transfer-test, copy-tests};
+ghost use Rattle.checker.specs.Quick.{first-upload, standing-at, any-below, aims, puts, loaded, fed, starts, unfed, lower, starved, unbacked, hold-test, transfer-test, copy-tests};
 use crate::Quad;
 use crate::hints::after_holds;
 use crate::hints::after_second;
 use crate::hints::from_second;
+use crate::hints::from_upload;
 use crate::rows::place;
 use crate::rows::row;
 use crate::rows::second;
+use crate::rows::whole;
 use crate::standing::member;
 use crate::standing::standing;
 use base::Refusal;
@@ -36,8 +38,16 @@ struct Faults {
 }
 
 // The set at second t, where it may be known.
-fn seen_at(ns: &[u32], hints: &mut [usize; 65], count: u32, home: u32, seen: Seen, t: u32) -> Seen
-    requires { ⌜ In-order (now ns) × (seen .word ≡ standing-at count home (now ns) (seen .second)) ⌝ }
+fn seen_at(
+    ns: &[u32],
+    hints: &mut [usize; 66],
+    uploads: usize,
+    count: u32,
+    home: u32,
+    seen: Seen,
+    t: u32,
+) -> Seen
+    requires { ⌜ In-order (now ns) × (uploads ≡ first-upload (now ns) 0) × (seen .word ≡ standing-at count home (now ns) (seen .second)) ⌝ }
     ensures { λ r. ⌜ (r .second ≡ t) × (r .word ≡ standing-at count home (now (ns .entry)) t) ⌝ }
 {
     if seen.second == t {
@@ -45,7 +55,7 @@ fn seen_at(ns: &[u32], hints: &mut [usize; 65], count: u32, home: u32, seen: See
     }
     Seen {
         second: t,
-        word: standing(ns, hints, count, home, t),
+        word: standing(ns, hints, uploads, count, home, t),
     }
 }
 
@@ -53,7 +63,7 @@ fn seen_at(ns: &[u32], hints: &mut [usize; 65], count: u32, home: u32, seen: See
 fn aims(x: u32, r: Quad) -> bool
     ensures { λ s. ⌜ s ≡ aims x (as-row r) ⌝ }
 {
-    if r.kind == 0 {
+    if r.kind != 1 {
         return false;
     }
     r.b == x
@@ -83,8 +93,33 @@ fn begins(home: u32, t: u32, x: u32) -> bool
     false
 }
 
+// Is the row an upload of second t to server x?
+fn puts(t: u32, x: u32, r: Quad) -> bool
+    ensures { λ s. ⌜ s ≡ puts t x (as-row r) ⌝ }
+{
+    if r.kind <= 1 {
+        return false;
+    }
+    if r.a != x {
+        return false;
+    }
+    r.b == t
+}
+
+// Is there one?
+fn loaded(ns: &[u32], hints: &mut [usize; 66], t: u32, x: u32) -> bool
+    requires { ⌜ In-order (now ns) ⌝ }
+    ensures { λ r. ⌜ r ≡ loaded (now (ns .entry)) t x ⌝ }
+{
+    let p = from_upload(ns, hints, t, x);
+    if p < ns.len() / 4 {
+        return puts(t, x, row(ns, p));
+    }
+    false
+}
+
 // May a copy come to server x at second t?
-fn fed(ns: &[u32], hints: &mut [usize; 65], home: u32, t: u32, x: u32) -> bool
+fn fed(ns: &[u32], hints: &mut [usize; 66], home: u32, t: u32, x: u32) -> bool
     requires { ⌜ In-order (now ns) ⌝ }
     ensures { λ r. ⌜ r ≡ fed home (now (ns .entry)) t x ⌝ }
 {
@@ -93,7 +128,10 @@ fn fed(ns: &[u32], hints: &mut [usize; 65], home: u32, t: u32, x: u32) -> bool
     }
     let from = from_second(ns, hints, t);
     let to = after_second(ns, hints, t);
-    aimed(ns, from, to, x)
+    if aimed(ns, from, to, x) {
+        return true;
+    }
+    loaded(ns, hints, t, x)
 }
 
 // Is the row a hold of server x that begins at second t?
@@ -110,7 +148,7 @@ fn starts(t: u32, x: u32, r: Quad) -> bool
 }
 
 // The hold at server x from second t on, if the set at t has not x; past the last row where there is none.
-fn unfed(ns: &[u32], hints: &mut [usize; 65], w: u64, t: u32, x: u32) -> usize
+fn unfed(ns: &[u32], hints: &mut [usize; 66], w: u64, t: u32, x: u32) -> usize
     requires { ⌜ In-order (now ns) ⌝ }
     ensures { λ r. ⌜ r ≡ unfed (now (ns .entry)) w t x ⌝ }
 {
@@ -143,23 +181,30 @@ fn unbacked(ns: &[u32], w: u64, y: u32, i: usize) -> usize
     i
 }
 
-// One pass over the transfers from one on: the first hold to which they bring no copy, and the first of them with no copy at its source.
-fn scan(ns: &[u32], hints: &mut [usize; 65], count: u32, home: u32, from: usize) -> Faults
-    requires { ⌜ In-order (now ns) ⌝ }
-    ensures { λ r. ⌜ (r .hold ≡ starved count home (now (ns .entry)) from (row-count (now (ns .entry)) - from))
-        × (r .transfer ≡ unbacked count home (now (ns .entry)) from (row-count (now (ns .entry)) - from)) ⌝ }
+// One pass over the transfers from one on up to the uploads: the first hold to which they bring no copy, and the first of them with no copy at its source.
+fn scan(
+    ns: &[u32],
+    hints: &mut [usize; 66],
+    uploads: usize,
+    count: u32,
+    home: u32,
+    from: usize,
+) -> Faults
+    requires { ⌜ In-order (now ns) × (uploads ≡ first-upload (now ns) 0) ⌝ }
+    ensures { λ r. ⌜ (r .hold ≡ starved count home (now (ns .entry)) from (uploads - from))
+        × (r .transfer ≡ unbacked count home (now (ns .entry)) from (uploads - from)) ⌝ }
 {
     let rows = ns.len() / 4;
     let mut seen = Seen {
         second: 0,
-        word: standing(ns, hints, count, home, 0),
+        word: standing(ns, hints, uploads, count, home, 0),
     };
     let mut low = rows;
     let mut late = rows;
     let mut i = from;
-    while i < rows {
-        let r = row(ns, i);
-        seen = seen_at(ns, hints, count, home, seen, second(r));
+    while i < uploads {
+        let r = whole(ns, i);
+        seen = seen_at(ns, hints, uploads, count, home, seen, second(r));
         low = lower(unfed(ns, hints, seen.word, seen.second, r.b), low);
         late = lower(unbacked(ns, seen.word, r.a, i), late);
         i += 1;
@@ -171,7 +216,7 @@ fn scan(ns: &[u32], hints: &mut [usize; 65], count: u32, home: u32, from: usize)
 }
 
 // Hold i is the first such one, or no copy may come to its start.
-fn fails(ns: &[u32], hints: &mut [usize; 65], home: u32, low: usize, i: usize) -> bool
+fn fails(ns: &[u32], hints: &mut [usize; 66], home: u32, low: usize, i: usize) -> bool
     requires { ⌜ In-order (now ns) ⌝ }
     ensures { λ r. ⌜ r ≡ either (eqb i low) (not (fed home (now (ns .entry)) (second-of (row-at (now (ns .entry)) i)) (server-of (row-at (now (ns .entry)) i)))) ⌝ }
 {
@@ -183,7 +228,7 @@ fn fails(ns: &[u32], hints: &mut [usize; 65], home: u32, low: usize, i: usize) -
 }
 
 // Each of the first rows: holds.
-fn holds_fault(ns: &[u32], hints: &mut [usize; 65], home: u32, low: usize, holds: usize) -> Verdict
+fn holds_fault(ns: &[u32], hints: &mut [usize; 66], home: u32, low: usize, holds: usize) -> Verdict
     requires { ⌜ In-order (now ns) × (holds ≤ row-count (now ns)) ⌝ }
     ensures { λ r. ⌜ r ≡ first (each (hold-test home (now (ns .entry)) low) holds) ⌝ }
 {
@@ -218,9 +263,10 @@ pub(crate) fn copies_fault(ns: &[u32], count: u32, home: u32) -> Verdict
     requires { ⌜ In-order (now ns) ⌝ }
     ensures { λ r. ⌜ r ≡ first (copy-tests count home (now (ns .entry))) ⌝ }
 {
-    let mut hints = [0usize; 65];
+    let mut hints = [0usize; 66];
     let holds = from_second(ns, &mut hints, 0);
-    let low = scan(ns, &mut hints, count, home, holds);
+    let uploads = from_upload(ns, &mut hints, 0, 0);
+    let low = scan(ns, &mut hints, uploads, count, home, holds);
     let v = holds_fault(ns, &mut hints, home, low.hold, holds);
     if let Verdict::Refused(r) = v {
         return Verdict::Refused(r);

@@ -1,8 +1,8 @@
-// Rows by server and second, each looked for from where the last one was found. There is a hint for each server below 64, and at 64
-// one for the transfers; any numbers will do.
+// Rows by server and second, each looked for from where the last one was found. There is a hint for each server below 64, at 64
+// one for the transfers, and at 65 one for the uploads; any numbers will do.
 ghost use mathlib.Core.Path.{_≡_};
 ghost use Prim.Native.Nat.{suc, _<_};
-ghost use Rattle.checker.specs.Search.{hold-key, second-key, position, In-order};
+ghost use Rattle.checker.specs.Search.{hold-key, second-key, upload-key, position, In-order};
 use crate::search::position;
 use base::widths::size_from_u32;
 use base::widths::u64_from_u32;
@@ -18,8 +18,8 @@ fn slot(x: u32) -> usize
 }
 
 // The first row at place k or later, which is then the hint at s.
-fn found(ns: &[u32], hints: &mut [usize; 65], s: usize, k: u64) -> usize
-    requires { ⌜ In-order (now ns) × (s < 65) ⌝ }
+fn found(ns: &[u32], hints: &mut [usize; 66], s: usize, k: u64) -> usize
+    requires { ⌜ In-order (now ns) × (s < 66) ⌝ }
     ensures { λ r. ⌜ r ≡ position (now (ns .entry)) k ⌝ }
 {
     let p = position(ns, k, hints[s]);
@@ -28,7 +28,7 @@ fn found(ns: &[u32], hints: &mut [usize; 65], s: usize, k: u64) -> usize
 }
 
 // The first row after the holds of server x that begin before second t.
-pub(crate) fn after_holds(ns: &[u32], hints: &mut [usize; 65], x: u32, t: u32) -> usize
+pub(crate) fn after_holds(ns: &[u32], hints: &mut [usize; 66], x: u32, t: u32) -> usize
     requires { ⌜ In-order (now ns) ⌝ }
     ensures { λ r. ⌜ r ≡ position (now (ns .entry)) (hold-key x t) ⌝ }
 {
@@ -41,7 +41,7 @@ pub(crate) fn after_holds(ns: &[u32], hints: &mut [usize; 65], x: u32, t: u32) -
 }
 
 // The first transfer of second t or later.
-pub(crate) fn from_second(ns: &[u32], hints: &mut [usize; 65], t: u32) -> usize
+pub(crate) fn from_second(ns: &[u32], hints: &mut [usize; 66], t: u32) -> usize
     requires { ⌜ In-order (now ns) ⌝ }
     ensures { λ r. ⌜ r ≡ position (now (ns .entry)) (second-key t) ⌝ }
 {
@@ -49,9 +49,22 @@ pub(crate) fn from_second(ns: &[u32], hints: &mut [usize; 65], t: u32) -> usize
 }
 
 // The first transfer after second t.
-pub(crate) fn after_second(ns: &[u32], hints: &mut [usize; 65], t: u32) -> usize
+pub(crate) fn after_second(ns: &[u32], hints: &mut [usize; 66], t: u32) -> usize
     requires { ⌜ In-order (now ns) ⌝ }
     ensures { λ r. ⌜ r ≡ position (now (ns .entry)) (second-key (suc t)) ⌝ }
 {
     found(ns, hints, 64, 268435456 + 4096 * (u64_from_u32(t) + 1))
+}
+
+// The first upload of second t to server x or a later one.
+pub(crate) fn from_upload(ns: &[u32], hints: &mut [usize; 66], t: u32, x: u32) -> usize
+    requires { ⌜ In-order (now ns) ⌝ }
+    ensures { λ r. ⌜ r ≡ position (now (ns .entry)) (upload-key t x) ⌝ }
+{
+    found(
+        ns,
+        hints,
+        65,
+        34359738368 + 4097 * u64_from_u32(t) + 64 * u64_from_u32(x),
+    )
 }

@@ -9,6 +9,8 @@ mod standing;
 
 use base::Refusal;
 pub use checking::check;
+pub use checking::check_uploads;
+pub use checking::check_uploads_with;
 pub use checking::check_with;
 
 // The cost of a feasible schedule, or why it is refused.

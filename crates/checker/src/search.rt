@@ -1,11 +1,13 @@
 // The first row from a place on, in rows in order: from a hint on by doubling steps, then by halving.
 ghost use mathlib.Core.Path.{_≡_};
 ghost use Prim.Native.Nat.{_-_, _<_, _≤_};
-ghost use lib.Dec.{ltb};
+ghost use lib.Dec.{ltb, eqb};
+ghost use Rattle.base.specs.Choice.{pick};
 ghost use Rattle.checker.specs.Reading.{as-row};
 ghost use Rattle.checker.specs.Search.{key, position, In-order};
 use crate::Quad;
 use crate::rows::row;
+use crate::rows::second;
 use base::widths::u64_from_u32;
 
 // Rows among which one is sought: from lo on, up to hi.
@@ -14,14 +16,24 @@ struct Span {
     hi: usize,
 }
 
-// The place of a row in the order.
+// Where the places of a move's kind begin.
+fn base(kind: u32) -> u64
+    ensures { λ k. ⌜ (k ≡ pick (eqb kind 1) 268435456 34359738368) × (k ≤ 34359738368) ⌝ }
+{
+    if kind == 1 {
+        return 268435456;
+    }
+    34359738368
+}
+
+// The place of a row in the order. Transfers and uploads differ by two choices, which need no branch.
 fn key(r: Quad) -> u64
     ensures { λ k. ⌜ k ≡ key (as-row r) ⌝ }
 {
     if r.kind == 0 {
         return 4194304 * u64_from_u32(r.a) + u64_from_u32(r.b);
     }
-    268435456 + 4096 * u64_from_u32(r.c) + 64 * u64_from_u32(r.a) + u64_from_u32(r.b)
+    base(r.kind) + 4096 * u64_from_u32(second(r)) + 64 * u64_from_u32(r.a) + u64_from_u32(r.b)
 }
 
 // Is row i before the first one at place k or later?

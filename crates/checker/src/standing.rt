@@ -2,15 +2,18 @@
 ghost use mathlib.Core.Path.{_≡_};
 ghost use Prim.Native.Nat.{_-_, _≤_};
 ghost use Rattle.base.specs.Sets.{has};
+ghost use Rattle.model.specs.Checking.{row-count};
 ghost use Rattle.checker.specs.Reading.{as-row};
 ghost use Rattle.checker.specs.Search.{In-order};
-ghost use Rattle.checker.specs.Quick.{join, covers, reaches, sources, with-hold, gather, begun, arrival, along, settle, standing-at};
+ghost use Rattle.checker.specs.Quick.{join, covers, reaches, servers, with-hold, gather, begun, first-upload, uploaded-to, arrival, along, settle, standing-at};
 ghost use Rattle.checker.specs.Skips.{Skips};
 use crate::Quad;
 use crate::hints::after_holds;
 use crate::hints::after_second;
 use crate::hints::from_second;
+use crate::hints::from_upload;
 use crate::rows::row;
+use crate::rows::whole;
 
 // Is server x in the set?
 pub fn member(w: u64, x: u32) -> bool
@@ -49,7 +52,7 @@ fn covers(t: u32, x: u32, r: Quad) -> bool
 }
 
 // Does the last hold of server x that began before second t reach it?
-pub(crate) fn reaches(ns: &[u32], hints: &mut [usize; 65], t: u32, x: u32) -> bool
+pub(crate) fn reaches(ns: &[u32], hints: &mut [usize; 66], t: u32, x: u32) -> bool
     requires { ⌜ In-order (now ns) ⌝ }
     ensures { λ r. ⌜ r ≡ reaches (now (ns .entry)) t x ⌝ }
 {
@@ -61,7 +64,7 @@ pub(crate) fn reaches(ns: &[u32], hints: &mut [usize; 65], t: u32, x: u32) -> bo
 }
 
 // The set with server x of some, where a hold keeps the copy there up to second t.
-fn with_hold(ns: &[u32], hints: &mut [usize; 65], t: u32, some: u64, w: u64, x: u32) -> u64
+fn with_hold(ns: &[u32], hints: &mut [usize; 66], t: u32, some: u64, w: u64, x: u32) -> u64
     requires { ⌜ In-order (now ns) ⌝ }
     ensures { λ r. ⌜ r ≡ with-hold (now (ns .entry)) t some w x ⌝ }
 {
@@ -90,7 +93,7 @@ fn next(some: u64, x: u32, count: u32) -> u32
 }
 
 // With all of them below the count.
-fn gather(ns: &[u32], hints: &mut [usize; 65], t: u32, some: u64, start: u64, count: u32) -> u64
+fn gather(ns: &[u32], hints: &mut [usize; 66], t: u32, some: u64, start: u64, count: u32) -> u64
     requires { ⌜ In-order (now ns) ⌝ }
     ensures { λ r. ⌜ r ≡ gather (now (ns .entry)) t some start count ⌝ }
 {
@@ -113,27 +116,42 @@ fn start(home: u32, t: u32) -> u64
     0
 }
 
-// The servers where the rows from one on up to another begin or leave.
-fn sources(ns: &[u32], from: usize, to: usize) -> u64
-    ensures { λ r. ⌜ r ≡ sources (now (ns .entry)) from (to - from) ⌝ }
+// The set with the servers where the rows from one on up to another begin, leave or arrive by an upload.
+fn servers(ns: &[u32], from: usize, to: usize, start: u64) -> u64
+    requires { ⌜ to ≤ row-count (now ns) ⌝ }
+    ensures { λ r. ⌜ r ≡ servers (now (ns .entry)) from start (to - from) ⌝ }
 {
-    let mut w: u64 = 0;
+    let mut w = start;
     let mut i = from;
     while i < to {
-        w = join(w, row(ns, i).a);
+        w = join(w, whole(ns, i).a);
         i += 1;
     }
     w
+}
+
+// At second t home, if t is 0, and the targets of its uploads. The first upload of all is known, so that without any none is looked for.
+fn uploaded(ns: &[u32], hints: &mut [usize; 66], uploads: usize, home: u32, t: u32) -> u64
+    requires { ⌜ In-order (now ns) × (uploads ≡ first-upload (now ns) 0) ⌝ }
+    ensures { λ r. ⌜ r ≡ uploaded-to home (now (ns .entry)) t ⌝ }
+{
+    let w = start(home, t);
+    if ns.len() / 4 <= uploads {
+        return w;
+    }
+    let from = from_upload(ns, hints, t, 0);
+    let to = from_upload(ns, hints, t, 64);
+    servers(ns, from, to, w)
 }
 
 // The set with the row's target, where the row is a transfer of second t whose source is in the set.
 fn arrival(t: u32, w: u64, r: Quad) -> u64
     ensures { λ v. ⌜ v ≡ arrival t w (as-row r) ⌝ }
 {
-    if r.kind == 0 {
+    if r.c != t {
         return w;
     }
-    if r.c != t {
+    if r.kind != 1 {
         return w;
     }
     if member(w, r.a) {
@@ -144,12 +162,13 @@ fn arrival(t: u32, w: u64, r: Quad) -> u64
 
 // The rows from one on up to another, once.
 fn along(ns: &[u32], t: u32, from: usize, to: usize, start: u64) -> u64
+    requires { ⌜ to ≤ row-count (now ns) ⌝ }
     ensures { λ r. ⌜ r ≡ along (now (ns .entry)) t from start (to - from) ⌝ }
 {
     let mut w = start;
     let mut i = from;
     while i < to {
-        w = arrival(t, w, row(ns, i));
+        w = arrival(t, w, whole(ns, i));
         i += 1;
     }
     w
@@ -157,6 +176,7 @@ fn along(ns: &[u32], t: u32, from: usize, to: usize, start: u64) -> u64
 
 // The rows from one on up to another, until they add nothing, but at most `count` times.
 fn settle(ns: &[u32], t: u32, from: usize, to: usize, count: u32, start: u64) -> u64
+    requires { ⌜ to ≤ row-count (now ns) ⌝ }
     ensures { λ r. ⌜ r ≡ settle count (λ w. along (now (ns .entry)) t from w (to - from)) start ⌝ }
 {
     let mut w = start;
@@ -173,12 +193,21 @@ fn settle(ns: &[u32], t: u32, from: usize, to: usize, count: u32, start: u64) ->
 }
 
 // Where a copy stands at second t, of the sources of its transfers and of the servers that no hold keeps up to t.
-pub(crate) fn standing(ns: &[u32], hints: &mut [usize; 65], count: u32, home: u32, t: u32) -> u64
-    requires { ⌜ In-order (now ns) ⌝ }
+pub(crate) fn standing(
+    ns: &[u32],
+    hints: &mut [usize; 66],
+    uploads: usize,
+    count: u32,
+    home: u32,
+    t: u32,
+) -> u64
+    requires { ⌜ In-order (now ns) × (uploads ≡ first-upload (now ns) 0) ⌝ }
     ensures { λ r. ⌜ r ≡ standing-at count home (now (ns .entry)) t ⌝ }
 {
     let from = from_second(ns, hints, t);
     let to = after_second(ns, hints, t);
-    let w = gather(ns, hints, t, sources(ns, from, to), start(home, t), count);
+    let some = servers(ns, from, to, 0);
+    let w = uploaded(ns, hints, uploads, home, t);
+    let w = gather(ns, hints, t, some, w, count);
     settle(ns, t, from, to, count, w)
 }

@@ -3,6 +3,7 @@
 use mathlib.Core.Bool.{false}
 use mathlib.Core.List.{List, [], _∷_, _++_}
 use mathlib.Core.Logic.{_↔_}
+use mathlib.Core.Option.{Option}
 use mathlib.Core.Path.{_≡_, refl, ap}
 use Prim.Native.Nat.{ℕ, suc, _-_, _≤_}
 use native.Mathlib.Omega.{arith}
@@ -18,6 +19,7 @@ use Rattle.base.specs.Lists.{build-length}
 use Rattle.prices.specs.PriceFile.{file-conditions}
 use Rattle.prices.specs.Tariff.{Tariff, price-file, Given, none, file, conditions-of}
 use Rattle.prices.specs.Offer.{Offer, offer-of}
+use Rattle.prices.specs.Uploads.{upload-conditions}
 use Rattle.log.specs.declared.Setup.{Setup}
 use Rattle.log.specs.declared.Header.{Header}
 use Rattle.log.specs.Fields.{request-count, seconds-of, servers-of, length-for}
@@ -104,59 +106,63 @@ pub write-left : (o : Offer) (c : Contents) (log : List ℕ) → Sixteen c → L
 write-left o c log h =
     left (write-verdict o c (length log)) (encode c) log (λ e. omega (arith, encode-length c h, write-passed o c (length log) e .2))
 
--- checking a schedule
-pub check-decided : (t : Tariff) (g : Given t) (log rows : List ℕ) → Decided (conditions-of g ++ check-conditions (t .table) log rows) (check-verdict-of t log rows)
+-- checking a schedule, with an upload price u or with none
+pub check-decided : (t : Tariff) (g : Given t) (u : Option ℕ) (log rows : List ℕ) → Decided (conditions-of g ++ check-conditions t u log rows) (check-verdict-of t u log rows)
 unfolding check-verdict-of
-check-decided t g log rows = decided-after t g (check-conditions (t .table) log rows)
+check-decided t g u log rows = decided-after t g (check-conditions t u log rows)
 
 -- planning: marks are looked at before rows
-pub plan-decided : (t : Tariff) (g : Given t) (log : List ℕ) (marks rows : ℕ)
-    → Decided (conditions-of g ++ (log-conditions (t .table) log ++ (short (request-count log) marks ∷ short (length (rows-of-plan t log)) rows ∷ []))) (plan-verdict t log marks rows)
+pub plan-decided : (t : Tariff) (g : Given t) (u : Option ℕ) (log : List ℕ) (marks rows : ℕ)
+    → Decided (conditions-of g ++ (log-conditions (t .table) log ++ (upload-conditions u ++ (short (request-count log) marks ∷ short (length (rows-of-plan t u log)) rows ∷ [])))) (plan-verdict t u log marks rows)
 unfolding plan-verdict
-plan-decided t g log marks rows = decided-after t g _
+plan-decided t g u log marks rows = decided-after t g _
 
-marks-length : (t : Tariff) (log : List ℕ) → length (marks-of t log) ≡ request-count log
+marks-length : (t : Tariff) (u : Option ℕ) (log : List ℕ) → length (marks-of t u log) ≡ request-count log
 unfolding marks-of
-marks-length t log = build-length (request-count log) _
+marks-length t u log = build-length (request-count log) _
 
-pub plan-left : (t : Tariff) (log marks rows : List ℕ) → let v = plan-verdict t log (length marks) (length rows) in
-    Left v (marks-of t log) marks × Left v (rows-of-plan t log) rows
+pub plan-left : (t : Tariff) (u : Option ℕ) (log marks rows : List ℕ) → let v = plan-verdict t u log (length marks) (length rows) in
+    Left v (marks-of t u log) marks × Left v (rows-of-plan t u log) rows
 unfolding plan-verdict
-plan-left t log marks rows = (
-  left v (marks-of t log) marks (λ e. omega (arith, marks-length t log, ltb-false (length marks) (request-count log) (room e 0))),
-  left v (rows-of-plan t log) rows (λ e. ltb-false (length rows) (length (rows-of-plan t log)) (room e 1)),
+plan-left t u log marks rows = (
+  left v (marks-of t u log) marks (λ e. omega (arith, marks-length t u log, ltb-false (length marks) (request-count log) (room e 0))),
+  left v (rows-of-plan t u log) rows (λ e. ltb-false (length rows) (length (rows-of-plan t u log)) (room e 1)),
 )
   where
     v : Verdict
-    v = plan-verdict t log (length marks) (length rows)
+    v = plan-verdict t u log (length marks) (length rows)
 
     outputs : List Condition
-    outputs = short (request-count log) (length marks) ∷ short (length (rows-of-plan t log)) (length rows) ∷ []
+    outputs = short (request-count log) (length marks) ∷ short (length (rows-of-plan t u log)) (length rows) ∷ []
 
     room : v ≡ Passed → (i : ℕ) → nth outputs i .holds ≡ false
-    room e = first-passed outputs .0 (append-passed (log-conditions (t .table) log) outputs .0 (otherwise-passed (t .judged) _ e .1) .1)
+    room e =
+        let (a, b) = append-passed (log-conditions (t .table) log) (upload-conditions u ++ outputs) .0 (otherwise-passed (t .judged) _ e .1) in
+        first-passed outputs .0 (append-passed (upload-conditions u) outputs .0 b .1)
 
 -- the least cost of every prefix
-pub least-decided : (t : Tariff) (g : Given t) (log : List ℕ) (costs : ℕ)
-    → Decided (conditions-of g ++ (log-conditions (t .table) log ++ (short (suc (request-count log)) costs ∷ []))) (least-verdict t log costs)
+pub least-decided : (t : Tariff) (g : Given t) (u : Option ℕ) (log : List ℕ) (costs : ℕ)
+    → Decided (conditions-of g ++ (log-conditions (t .table) log ++ (upload-conditions u ++ (short (suc (request-count log)) costs ∷ [])))) (least-verdict t u log costs)
 unfolding least-verdict
-least-decided t g log costs = decided-after t g _
+least-decided t g u log costs = decided-after t g _
 
-least-length : (t : Tariff) (log : List ℕ) → length (least-costs t log) ≡ suc (request-count log)
+least-length : (t : Tariff) (u : Option ℕ) (log : List ℕ) → length (least-costs t u log) ≡ suc (request-count log)
 unfolding least-costs
-least-length t log = build-length (suc (request-count log)) _
+least-length t u log = build-length (suc (request-count log)) _
 
-pub least-left : (t : Tariff) (log costs : List ℕ) → Left (least-verdict t log (length costs)) (least-costs t log) costs
+pub least-left : (t : Tariff) (u : Option ℕ) (log costs : List ℕ) → Left (least-verdict t u log (length costs)) (least-costs t u log) costs
 unfolding least-verdict
-least-left t log costs =
-    left (least-verdict t log (length costs)) (least-costs t log) costs
-    (λ e. omega (arith, least-length t log, ltb-false (length costs) (suc (request-count log)) (room e 0)))
+least-left t u log costs =
+    left (least-verdict t u log (length costs)) (least-costs t u log) costs
+    (λ e. omega (arith, least-length t u log, ltb-false (length costs) (suc (request-count log)) (room e 0)))
   where
     outputs : List Condition
     outputs = short (suc (request-count log)) (length costs) ∷ []
 
-    room : least-verdict t log (length costs) ≡ Passed → (i : ℕ) → nth outputs i .holds ≡ false
-    room e = first-passed outputs .0 (append-passed (log-conditions (t .table) log) outputs .0 (otherwise-passed (t .judged) _ e .1) .1)
+    room : least-verdict t u log (length costs) ≡ Passed → (i : ℕ) → nth outputs i .holds ≡ false
+    room e =
+        let (a, b) = append-passed (log-conditions (t .table) log) (upload-conditions u ++ outputs) .0 (otherwise-passed (t .judged) _ e .1) in
+        first-passed outputs .0 (append-passed (upload-conditions u) outputs .0 b .1)
 
 -- a quote, which is lent nothing
 pub quote-decided : (t : Tariff) (g : Given t) (log : List ℕ) → Decided (conditions-of g ++ log-conditions (t .table) log) (verdict-of t log)

@@ -1,5 +1,7 @@
--- Demand 3 whole, for every price file that loads and for the built-in table. The planner's half: every accepted log, cut to its first requests. The online half: every list of calls after a start.
+-- Demand 3 whole, for every price file that loads and for the built-in table. The planner's half: every accepted log, cut to its first requests, with an
+-- upload price (02's Req 11) or with none. The online half: every list of calls after a start.
 use mathlib.Core.List.{List, [], _∷_, _++_}
+use mathlib.Core.Option.{Option}
 use mathlib.Core.Path.{_≡_, refl, ap, sym, _∙_}
 use Prim.Native.Nat.{ℕ, suc, _*_, _≤_}
 use native.Mathlib.Omega.{arith}
@@ -7,21 +9,23 @@ use borrow.Author.Tests.{le-ltb}
 use lib.ListN.{length, getD}
 use Rattle.base.specs.declared.Verdict.{Verdict}
 use Rattle.base.specs.declared.Verdict.the-variants.{Passed}
-use Rattle.base.specs.Refusals.{first, otherwise, short}
-use Rattle.base.specs.RefusalLaws.{first-append, otherwise-passed}
+use Rattle.base.specs.Refusals.{first, short}
+use Rattle.base.specs.RefusalLaws.{first-append}
 use Rattle.base.specs.Lists.{build-at}
 use Rattle.prices.specs.Tariff.{Tariff, Given}
+use Rattle.prices.specs.Uploads.{upload-conditions, Taken}
+use Rattle.prices.specs.UploadLaws.{taken-iff}
 use Rattle.prices.specs.Prices.{prices-of, In-range}
 use Rattle.prices.specs.Offer.{offer-of}
 use Rattle.prices.specs.PriceLaws.{given-priced, offer-tariff}
 use Rattle.log.specs.declared.Header.{Header}
 use Rattle.log.specs.Fields.{request-count, server-count}
-use Rattle.log.specs.Conditions.{Accepted, verdict-of, log-conditions}
+use Rattle.log.specs.Conditions.{Accepted}
 use Rattle.log.specs.AcceptedLaws.{accepted-sound}
 use Rattle.log.specs.Ranges.{Allowed}
 use Rattle.log.specs.Contents.{decode, setup-in, first-requests, cut}
 use Rattle.log.specs.Cutting.{cut-accepted, cut-decodes, cut-count}
-use Rattle.model.specs.LogRequests.{requests-in, prices-in}
+use Rattle.model.specs.LogRequests.{requests-in, rates-in}
 use Rattle.model.specs.LogRequestLaws.{log-rising, log-within, cut-alike, cut-prices}
 use Rattle.model.specs.Alike.{best-alike}
 use Rattle.model.specs.Plan.{plan-cost, plan-rows}
@@ -38,33 +42,34 @@ use Rattle.online.specs.Passed.{log-start-passed, start-passed}
 use Rattle.bounds.specs.Calls.{Call, scan, close, verdict, after}
 use Rattle.bounds.specs.Claim.{Claim}
 use Rattle.bounds.specs.ClaimLaws.{claim}
+use Rattle.report.specs.SheetLaws.{passed-after}
 use Rattle.guarantees.specs.CheckerAccepts.{schedule-accepted}
 use Rattle.guarantees.specs.Optimality.{Optimal, optimal}
 
 -- the planner's answer for an accepted log cut to its first k requests
-pub record Planned-best (t : Tariff) (log : List ℕ) (k : ℕ) : Type 0 where
+pub record Planned-best (t : Tariff) (u : Option ℕ) (log : List ℕ) (k : ℕ) : Type 0 where
   -- the cut log is a log, and says the first k requests
   pub accepted : Accepted t (cut k log)
   pub says : decode (cut k log) ≡ first-requests k (decode log)
   -- with outputs long enough it is not refused
-  pub answered : (marks rows : ℕ) → k ≤ marks → length (rows-of-plan t (cut k log)) ≤ rows → plan-verdict t (cut k log) marks rows ≡ Passed
+  pub answered : (marks rows : ℕ) → k ≤ marks → length (rows-of-plan t u (cut k log)) ≤ rows → plan-verdict t u (cut k log) marks rows ≡ Passed
   -- and the answer is the cost and the number of rows
-  pub gives : (marks rows : ℕ) → k ≤ marks → length (rows-of-plan t (cut k log)) ≤ rows
-      → planned (plan-verdict t (cut k log) marks rows) t (cut k log)
-      ≡ planner.Plan (plan-cost (prices-in t (cut k log)) (requests-in (cut k log)) k) (length (planned-rows t (cut k log)))
+  pub gives : (marks rows : ℕ) → k ≤ marks → length (rows-of-plan t u (cut k log)) ≤ rows
+      → planned (plan-verdict t u (cut k log) marks rows) t u (cut k log)
+      ≡ planner.Plan (plan-cost (rates-in t u (cut k log)) (requests-in (cut k log)) k) (length (planned-rows t u (cut k log)))
   -- the planned rows are those of the plan of its k requests
-  pub rows-are : rows-of-plan t (cut k log)
-      ≡ flat (plan-rows (prices-in t (cut k log)) (requests-in (cut k log)) (server-count (cut k log)) k)
+  pub rows-are : rows-of-plan t u (cut k log)
+      ≡ flat (plan-rows (rates-in t u (cut k log)) (requests-in (cut k log)) (server-count (cut k log)) k)
   -- they are at most 4,096
-  pub few : length (planned-rows t (cut k log)) ≤ 4096
+  pub few : length (planned-rows t u (cut k log)) ≤ 4096
   -- the checker accepts the planned rows with the planned cost
-  pub checks : check-answer t (cut k log) (rows-of-plan t (cut k log)) ≡ answer.Cost (plan-cost (prices-in t (cut k log)) (requests-in (cut k log)) k)
+  pub checks : check-answer t u (cut k log) (rows-of-plan t u (cut k log)) ≡ answer.Cost (plan-cost (rates-in t u (cut k log)) (requests-in (cut k log)) k)
   -- they are well formed and feasible, cost that, and no feasible schedule costs less
-  pub best : Optimal (prices-in t (cut k log)) (server-count (cut k log)) (requests-in (cut k log)) k
+  pub best : Optimal (rates-in t u (cut k log)) (server-count (cut k log)) (requests-in (cut k log)) k
   -- and it is the least cost that `least` gives for the first k requests
-  pub least-is : getD (least-costs t log) k 0 ≡ plan-cost (prices-in t (cut k log)) (requests-in (cut k log)) k
+  pub least-is : getD (least-costs t u log) k 0 ≡ plan-cost (rates-in t u (cut k log)) (requests-in (cut k log)) k
 
-module _ (t : Tariff) (log : List ℕ) (k : ℕ) (a : Accepted t log) (h : k ≤ request-count log) where
+module _ (t : Tariff) (u : Option ℕ) (taken : Taken u) (log : List ℕ) (k : ℕ) (a : Accepted t log) (h : k ≤ request-count log) where
   part : List ℕ
   part = cut k log
 
@@ -76,65 +81,64 @@ module _ (t : Tariff) (log : List ℕ) (k : ℕ) (a : Accepted t log) (h : k ≤
   unfolding part
   part-count = cut-count t log k a h
 
-  part-best : Optimal (prices-in t part) (server-count part) (requests-in part) k
+  part-best : Optimal (rates-in t u part) (server-count part) (requests-in part) k
   part-best =
-      optimal (prices-in t part) (server-count part) (requests-in part) k
+      optimal (rates-in t u part) (server-count part) (requests-in part) k
       (rw part-count at (log-rising t part part-accepted))
       (rw part-count at (log-within t part part-accepted))
 
-  part-rows : rows-of-plan t part ≡ flat (plan-rows (prices-in t part) (requests-in part) (server-count part) k)
+  part-rows : rows-of-plan t u part ≡ flat (plan-rows (rates-in t u part) (requests-in part) (server-count part) k)
   unfolding rows-of-plan planned-rows
   part-rows = rw part-count
 
-  few : length (planned-rows t part) ≤ 4096
+  few : length (planned-rows t u part) ≤ 4096
   unfolding planned-rows
   few =
-      let rows : length (plan-rows (prices-in t part) (requests-in part) (server-count part) (request-count part)) ≤ 2 * k = rw part-count (part-best .few) in
+      let rows : length (plan-rows (rates-in t u part) (requests-in part) (server-count part) (request-count part)) ≤ 2 * k = rw part-count (part-best .few) in
       omega (arith, rows, accepted-sound t log a .requests-most, h)
 
-  checks : check-answer t part (rows-of-plan t part) ≡ answer.Cost (plan-cost (prices-in t part) (requests-in part) k)
+  checks : check-answer t u part (rows-of-plan t u part) ≡ answer.Cost (plan-cost (rates-in t u part) (requests-in part) k)
   checks =
-      let rows = plan-rows (prices-in t part) (requests-in part) (server-count part) k in
+      let rows = plan-rows (rates-in t u part) (requests-in part) (server-count part) k in
       rw part-rows
-      (schedule-accepted t part rows part-accepted (rw part-count (part-best .formed)) (rw part-count (part-best .feasible)) ∙ ap answer.Cost (part-best .costs))
+      (schedule-accepted t u part rows part-accepted taken (rw part-count (part-best .formed)) (rw part-count (part-best .feasible)) ∙ ap answer.Cost (part-best .costs))
 
-  answered : (marks rows : ℕ) → k ≤ marks → length (rows-of-plan t part) ≤ rows → plan-verdict t part marks rows ≡ Passed
-  unfolding plan-verdict verdict-of Accepted first
-  answered marks rows u w =
-      let xs = short (request-count part) marks ∷ short (length (rows-of-plan t part)) rows ∷ [] in
-      let (j, c) = otherwise-passed (t .judged) (first (log-conditions (t .table) part)) part-accepted in
-      ap (λ (v : Verdict). otherwise v (first (log-conditions (t .table) part ++ xs))) j
-      ∙ first-append (log-conditions (t .table) part) xs
-      ∙ rw (c, part-count, le-ltb marks k u, le-ltb rows (length (rows-of-plan t part)) w)
+  answered : (marks rows : ℕ) → k ≤ marks → length (rows-of-plan t u part) ≤ rows → plan-verdict t u part marks rows ≡ Passed
+  unfolding plan-verdict first
+  answered marks rows l w =
+      let room = short (request-count part) marks ∷ short (length (rows-of-plan t u part)) rows ∷ [] in
+      passed-after t part (upload-conditions u ++ room) part-accepted
+      ∙ (first-append (upload-conditions u) room
+      ∙ rw (taken-iff u .1 taken, part-count, le-ltb marks k l, le-ltb rows (length (rows-of-plan t u part)) w))
 
-  gives : (marks rows : ℕ) → k ≤ marks → length (rows-of-plan t part) ≤ rows
-      → planned (plan-verdict t part marks rows) t part ≡ planner.Plan (plan-cost (prices-in t part) (requests-in part) k) (length (planned-rows t part))
+  gives : (marks rows : ℕ) → k ≤ marks → length (rows-of-plan t u part) ≤ rows
+      → planned (plan-verdict t u part marks rows) t u part ≡ planner.Plan (plan-cost (rates-in t u part) (requests-in part) k) (length (planned-rows t u part))
   unfolding planned
-  gives marks rows u w = rw (answered marks rows u w, part-count)
+  gives marks rows l w = rw (answered marks rows l w, part-count)
 
-  least-is : getD (least-costs t log) k 0 ≡ plan-cost (prices-in t part) (requests-in part) k
+  least-is : getD (least-costs t u log) k 0 ≡ plan-cost (rates-in t u part) (requests-in part) k
   unfolding least-costs part
   least-is =
       build-at (suc (request-count log)) _ k 0 (omega arith)
-      ∙ plan-best (prices-in t log) (requests-in log) k
-      ∙ sym (best-alike (requests-in part) (requests-in log) k (cut-alike t log k a h) (prices-in t log) k k (omega arith))
-      ∙ sym (plan-best (prices-in t log) (requests-in part) k)
+      ∙ plan-best (rates-in t u log) (requests-in log) k
+      ∙ sym (best-alike (requests-in part) (requests-in log) k (cut-alike t log k a h) (rates-in t u log) k k (omega arith))
+      ∙ sym (plan-best (rates-in t u log) (requests-in part) k)
       ∙ rw (cut-prices t log k a h)
 
--- THE PLANNER'S HALF: for every tariff, a price file or the built-in table, and every log accepted with it
-pub planned-best : (t : Tariff) (log : List ℕ) (k : ℕ) → Accepted t log → k ≤ request-count log → Planned-best t log k
+-- THE PLANNER'S HALF: for every tariff, a price file or the built-in table, every upload price that is taken, or none, and every log accepted with it
+pub planned-best : (t : Tariff) (u : Option ℕ) → Taken u → (log : List ℕ) (k : ℕ) → Accepted t log → k ≤ request-count log → Planned-best t u log k
 unfolding part
-planned-best t log k a h =
+planned-best t u taken log k a h =
     record {
-      accepted = part-accepted t log k a h;
+      accepted = part-accepted t u taken log k a h;
       says = cut-decodes t log k a h;
-      answered = answered t log k a h;
-      gives = gives t log k a h;
-      rows-are = part-rows t log k a h;
-      few = few t log k a h;
-      checks = checks t log k a h;
-      best = part-best t log k a h;
-      least-is = least-is t log k a h;
+      answered = answered t u taken log k a h;
+      gives = gives t u taken log k a h;
+      rows-are = part-rows t u taken log k a h;
+      few = few t u taken log k a h;
+      checks = checks t u taken log k a h;
+      best = part-best t u taken log k a h;
+      least-is = least-is t u taken log k a h;
     }
 
 -- the calls of a list are those of the contracts: each gives back the state of the contract's answer, and is refused by its verdict

@@ -2,6 +2,8 @@
 use mathlib.Core.Bool.{true, false}
 use mathlib.Core.List.{List}
 use mathlib.Core.Logic.{_⊎_, inl, inr, _↔_}
+use mathlib.Core.Option.{Option}
+use mathlib.Core.Option as option
 use mathlib.Core.Path.{_≡_, refl}
 use native.Mathlib.Omega.{arith}
 use Prim.Native.Nat.{ℕ, _≤_, _<_}
@@ -15,6 +17,7 @@ use Rattle.prices.specs.Prices.{priced, classes, prices-of}
 use Rattle.prices.specs.PriceLaws.{given-priced, judged-never}
 use Rattle.prices.specs.Tariff.{Tariff, built-in, price-file, Given, none, file}
 use Rattle.prices.specs.Offer.{built-in-offer, file-offer, offer-of}
+use Rattle.prices.specs.Uploads.{Taken}
 use Rattle.log.specs.declared.Setup.{Setup}
 use Rattle.log.specs.Fields.{class-of, setup-of, header-of, request-count}
 use Rattle.log.specs.Conditions.{no-longer-sold, verdict-of, Accepted}
@@ -91,12 +94,12 @@ only-seven t (file bytes) class e = absurd (not-both e refl)
 
 -- what a log of class 7 keeps, and what is refused
 pub record Old-log (log : List ℕ) : Type 0 where
-  -- it is read, at its old prices, and planned best with each of its cuts
+  -- it is read, at its old prices, and planned best with each of its cuts, uploads or none
   pub accepted : Accepted built-in log
   pub prices-are : prices-in built-in log ≡ priced 1 1000000
-  pub planned : (k : ℕ) → k ≤ request-count log → Planned-best built-in log k
+  pub planned : (u : Option ℕ) → Taken u → (k : ℕ) → k ≤ request-count log → Planned-best built-in u log k
   -- it is quoted too
-  pub quoted : Within-twice built-in log (getD (least-costs built-in log) (request-count log) 0)
+  pub quoted : Within-twice built-in log (getD (least-costs built-in option.none log) (request-count log) 0)
   -- a cache that a program starts for it is within threefold, after every list of calls
   pub started : Ready built-in none (header-of log) (opened built-in log)
   pub within : (calls : List Call) → Claim classes (header-of log) (opened built-in log) calls
@@ -113,7 +116,7 @@ old-log log sound e =
     record {
       accepted = a;
       prices-are = rw e;
-      planned = λ k h. planned-best built-in log k a h;
+      planned = λ u taken k h. planned-best built-in u taken log k a h;
       quoted = whole-within built-in log a;
       started = ready;
       within = λ calls. online-within-three built-in none (header-of log) (opened built-in log) ready calls;

@@ -12,6 +12,7 @@ pub mod Demand3
 pub mod Closes
 pub mod OneFile
 pub mod Quotes
+pub mod Uploads
 pub mod SheetColumns
 pub mod PriceFiles
 pub mod EndedClass

@@ -1,6 +1,7 @@
 -- Price files (02's Req 05): which load, that their refusals come before all others, and demand 3 with Req 02's bound for every tariff in one statement.
 use mathlib.Core.List.{List}
 use mathlib.Core.Logic.{_↔_}
+use mathlib.Core.Option.{Option}
 use mathlib.Core.Path.{_≡_, refl}
 use Prim.Native.Nat.{ℕ, _≤_, _<_}
 use lib.ListN.{length, take}
@@ -12,6 +13,7 @@ use Rattle.prices.specs.PriceFile.{built-in-bytes, Loads}
 use Rattle.prices.specs.FileLaws.{built-in-file, loads-exactly}
 use Rattle.prices.specs.Tariff.{Tariff, built-in, price-file, Given}
 use Rattle.prices.specs.Offer.{file-offer}
+use Rattle.prices.specs.Uploads.{Taken}
 use Rattle.log.specs.declared.Setup.{Setup}
 use Rattle.log.specs.declared.Header.{Header}
 use Rattle.log.specs.Fields.{request-count}
@@ -54,9 +56,9 @@ pub record First-of-all (file : List ℕ) (r : Refusal) : Type 0 where
   pub log : (log : List ℕ) → verdict-of (price-file file) log ≡ Refused r
   pub read : (log : List ℕ) (seconds servers : ℕ) → read-verdict (price-file file) log seconds servers ≡ Refused r
   pub write : (c : Contents) (log : ℕ) → write-verdict (file-offer file) c log ≡ Refused r
-  pub check : (log rows : List ℕ) → check-verdict-of (price-file file) log rows ≡ Refused r
-  pub plan : (log : List ℕ) (marks rows : ℕ) → plan-verdict (price-file file) log marks rows ≡ Refused r
-  pub least : (log : List ℕ) (costs : ℕ) → least-verdict (price-file file) log costs ≡ Refused r
+  pub check : (u : Option ℕ) (log rows : List ℕ) → check-verdict-of (price-file file) u log rows ≡ Refused r
+  pub plan : (u : Option ℕ) (log : List ℕ) (marks rows : ℕ) → plan-verdict (price-file file) u log marks rows ≡ Refused r
+  pub least : (u : Option ℕ) (log : List ℕ) (costs : ℕ) → least-verdict (price-file file) u log costs ≡ Refused r
   pub quote : (log : List ℕ) → quote-answer (price-file file) log ≡ quote′.Refused r
   pub start : (s : Setup) → start-verdict (file-offer file) s ≡ Refused r
   pub log-start : (s : Setup) → log-start-verdict (price-file file) s ≡ Refused r
@@ -70,9 +72,9 @@ file-first file r e =
       log = λ log. rw e;
       read = λ log seconds servers. rw e;
       write = λ c log. rw e;
-      check = λ log rows. rw e;
-      plan = λ log marks rows. rw e;
-      least = λ log costs. rw e;
+      check = λ u log rows. rw e;
+      plan = λ u log marks rows. rw e;
+      least = λ u log costs. rw e;
       quote = λ log. rw e;
       start = λ s. rw e;
       log-start = λ s. rw e;
@@ -85,8 +87,8 @@ first-bytes-enough = enough-prices
 
 -- demand 3 by one tariff
 pub record Demand-3 (t : Tariff) (g : Given t) : Type 0 where
-  -- every log accepted with it, cut to its first requests
-  pub planner : (log : List ℕ) (k : ℕ) → Accepted t log → k ≤ request-count log → Planned-best t log k
+  -- every log accepted with it, cut to its first requests, with an upload price that is taken or with none
+  pub planner : (u : Option ℕ) → Taken u → (log : List ℕ) (k : ℕ) → Accepted t log → k ≤ request-count log → Planned-best t u log k
   -- every start that is not refused, of what is sold or for a log that there is, and every list of calls after it
   pub online : (s : Header) (c : Cache) → Ready t g s c → (calls : List Call) → Claim (t .table) s c calls
   -- every close among them that is not refused

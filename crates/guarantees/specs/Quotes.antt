@@ -2,6 +2,7 @@
 -- the quote exceeds the least cost, and the quote lies between it and its double.
 use mathlib.Core.List.{List, _++_}
 use mathlib.Core.Logic.{_↔_}
+use mathlib.Core.Option.{none}
 use mathlib.Core.Path.{_≡_, refl, sym, ap, _∙_}
 use native.Mathlib.Omega.{arith}
 use Prim.Native.Nat.{ℕ, suc, _*_, _≤_}
@@ -18,7 +19,7 @@ use Rattle.log.specs.Contents.{cut}
 use Rattle.log.specs.Cutting.{cut-count}
 use Rattle.model.specs.Requests.{requests}
 use Rattle.model.specs.Sums.{sum}
-use Rattle.model.specs.LogRequests.{requests-in, prices-in}
+use Rattle.model.specs.LogRequests.{requests-in, prices-in, rates-in}
 use Rattle.model.specs.LogRequestLaws.{log-rising, log-within}
 use Rattle.model.specs.Least.{Least}
 use Rattle.model.specs.Plan.{plan-cost}
@@ -66,7 +67,7 @@ pub record Within-twice (t : Tariff) (log : List ℕ) (least : ℕ) : Type 0 whe
   -- the quote is what the call answers
   pub answered : quote-answer t log ≡ answer.Cost (quote-in t log)
   -- `least` is the least cost of all its requests
-  pub is-least : Least (prices-in t log) (server-count log) (requests-in log) (request-count log) least
+  pub is-least : Least (rates-in t none log) (server-count log) (requests-in log) (request-count log) least
   -- neither part exceeds it
   pub sum-most : sum-part (prices-in t log) (requests-in log) (request-count log) ≤ least
   pub hold-most : hold-part (prices-in t log) (requests-in log) (request-count log) ≤ least
@@ -76,7 +77,7 @@ pub record Within-twice (t : Tariff) (log : List ℕ) (least : ℕ) : Type 0 whe
 
 -- EVERY ACCEPTED LOG, with the least cost of its requests
 pub within-twice : (t : Tariff) (log : List ℕ) → Accepted t log → (least : ℕ)
-    → Least (prices-in t log) (server-count log) (requests-in log) (request-count log) least → Within-twice t log least
+    → Least (rates-in t none log) (server-count log) (requests-in log) (request-count log) least → Within-twice t log least
 unfolding quote-of
 within-twice t log a least l =
     let p = prices-in t log in
@@ -95,20 +96,20 @@ within-twice t log a least l =
 
 -- there is such a cost: the plan's
 planned-least : (t : Tariff) (log : List ℕ) → Accepted t log
-    → Least (prices-in t log) (server-count log) (requests-in log) (request-count log) (plan-cost (prices-in t log) (requests-in log) (request-count log))
+    → Least (rates-in t none log) (server-count log) (requests-in log) (request-count log) (plan-cost (rates-in t none log) (requests-in log) (request-count log))
 planned-least t log a = plan-least _ _ _ _ (log-rising t log a) (log-within t log a)
 
 -- THE WHOLE LOG, beside the last cost that the planner's `least` gives for it
-pub whole-within : (t : Tariff) (log : List ℕ) → Accepted t log → Within-twice t log (getD (least-costs t log) (request-count log) 0)
+pub whole-within : (t : Tariff) (log : List ℕ) → Accepted t log → Within-twice t log (getD (least-costs t none log) (request-count log) 0)
 unfolding least-costs
 whole-within t log a =
     let n = request-count log in
     within-twice t log a _
-    (rw (build-at (suc n) (λ k. plan-cost (prices-in t log) (requests-in log) k) n 0 (omega arith)) (planned-least t log a))
+    (rw (build-at (suc n) (λ k. plan-cost (rates-in t none log) (requests-in log) k) n 0 (omega arith)) (planned-least t log a))
 
 -- THE LOG CUT to its first k requests, beside the cost that `least` gives for so many
-pub cut-within : (t : Tariff) (log : List ℕ) (k : ℕ) → Accepted t log → k ≤ request-count log → Within-twice t (cut k log) (getD (least-costs t log) k 0)
+pub cut-within : (t : Tariff) (log : List ℕ) (k : ℕ) → Accepted t log → k ≤ request-count log → Within-twice t (cut k log) (getD (least-costs t none log) k 0)
 cut-within t log k a h =
-    let b = planned-best t log k a h in
+    let b = planned-best t none tt log k a h in
     within-twice t (cut k log) (b .accepted) _
-    (rw (b .least-is ∙ ap (plan-cost (prices-in t (cut k log)) (requests-in (cut k log))) (sym (cut-count t log k a h))) (planned-least t (cut k log) (b .accepted)))
+    (rw (b .least-is ∙ ap (plan-cost (rates-in t none (cut k log)) (requests-in (cut k log))) (sym (cut-count t log k a h))) (planned-least t (cut k log) (b .accepted)))

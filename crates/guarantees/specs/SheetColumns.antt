@@ -2,6 +2,7 @@
 -- mark and the running cost are what the online cache answers when it is handed the requests up to there, and the cost is within three times the least.
 -- The closing cost of the last line is what it answers when it is closed after all of them.
 use mathlib.Core.List.{List}
+use mathlib.Core.Option.{none}
 use mathlib.Core.Path.{_≡_, refl, sym, ap, _∙_}
 use Prim.Native.Nat.{ℕ, zero, suc, _+_, _-_, _*_, _≤_, _<_}
 use native.Mathlib.Omega.{arith}
@@ -17,7 +18,7 @@ use Rattle.log.specs.Contents.{Contents, decode, first-requests, cut}
 use Rattle.log.specs.Cutting.{cut-decodes}
 use Rattle.log.specs.AcceptedLaws.{seconds-length, servers-length}
 use Rattle.model.specs.Requests.{requests}
-use Rattle.model.specs.LogRequests.{requests-in, prices-in}
+use Rattle.model.specs.LogRequests.{requests-in, prices-in, rates-in}
 use Rattle.model.specs.LogRequestLaws.{cut-prices}
 use Rattle.model.specs.Plan.{plan-cost}
 use Rattle.planner.specs.declared.Planned.the-variants as planned′
@@ -48,24 +49,24 @@ pub record Least-column (t : Tariff) (log : List ℕ) (k : ℕ) : Type 0 where
   -- it is the line of request k
   pub number-is : line-of t log k .number ≡ k
   -- its least cost is the cost of the plan of the log cut to its first k requests
-  pub least-is : line-of t log k .least ≡ plan-cost (prices-in t (cut k log)) (requests-in (cut k log)) k
+  pub least-is : line-of t log k .least ≡ plan-cost (rates-in t none (cut k log)) (requests-in (cut k log)) k
   -- so it is what the planner answers for the cut log, its outputs long enough
-  pub answers : (marks rows : ℕ) → k ≤ marks → length (rows-of-plan t (cut k log)) ≤ rows
-      → planned (plan-verdict t (cut k log) marks rows) t (cut k log) ≡ planned′.Plan (line-of t log k .least) (length (planned-rows t (cut k log)))
+  pub answers : (marks rows : ℕ) → k ≤ marks → length (rows-of-plan t none (cut k log)) ≤ rows
+      → planned (plan-verdict t none (cut k log) marks rows) t none (cut k log) ≡ planned′.Plan (line-of t log k .least) (length (planned-rows t none (cut k log)))
 
 -- THE SHEET'S LEAST COLUMN
 pub least-column : (t : Tariff) (log : List ℕ) (k : ℕ) → Accepted t log → 1 ≤ k → k ≤ request-count log → Least-column t log k
 unfolding entry-of columns-of
 least-column t log k a least most =
-    let best = planned-best t log k a most in
+    let best = planned-best t none tt log k a most in
     let number : line-of t log k .number ≡ k = omega arith in
-    let column : line-of t log k .least ≡ plan-cost (prices-in t (cut k log)) (requests-in (cut k log)) k =
-    ap (λ (i : ℕ). getD (least-costs t log) i 0) number ∙ best .least-is in
+    let column : line-of t log k .least ≡ plan-cost (rates-in t none (cut k log)) (requests-in (cut k log)) k =
+    ap (λ (i : ℕ). getD (least-costs t none log) i 0) number ∙ best .least-is in
     record {
       number-is = number;
       least-is = column;
       answers = λ marks rows h l.
-          best .gives marks rows h l ∙ ap (λ (cost : ℕ). planned′.Plan cost (length (planned-rows t (cut k log)))) (sym column);
+          best .gives marks rows h l ∙ ap (λ (cost : ℕ). planned′.Plan cost (length (planned-rows t none (cut k log)))) (sym column);
     }
 
 -- ---- the live columns
@@ -117,7 +118,7 @@ module _ (t : Tariff) (g : Given t) (log : List ℕ) (k : ℕ) (a : Accepted t l
   count-is = ap length list-of ∙ build-length k (request (id-of log) (seconds-of log) (servers-of log))
 
   -- a claim's least cost is that of the cut log's plan
-  least-of : (x : Claim (t .table) (header-of log) (opened t log) (calls-of log k)) → x .least ≡ plan-cost (prices-in t (cut k log)) (requests-in (cut k log)) k
+  least-of : (x : Claim (t .table) (header-of log) (opened t log) (calls-of log k)) → x .least ≡ plan-cost (rates-in t none (cut k log)) (requests-in (cut k log)) k
   unfolding prices-in header-of
   least-of x = x .is-planned ∙ rw (served-is, count-is, cut-prices t log k a h)
 
@@ -171,7 +172,7 @@ pub record Close-line (t : Tariff) (log : List ℕ) : Type 0 where
   pub answers : closed-answer (run (opened t log) (all-calls log)) .outcome ≡ close′.Cost (closing-cost t log)
   -- it is at least the running cost, and at most three times the least cost of all requests and one transfer price
   pub no-less : running (run (opened t log) (all-calls log)) ≤ closing-cost t log
-  pub no-more : closing-cost t log ≤ 3 * getD (least-costs t log) (request-count log) 0 + prices-in t log .transfer
+  pub no-more : closing-cost t log ≤ 3 * getD (least-costs t none log) (request-count log) 0 + prices-in t log .transfer
   -- a log without requests has the holding of one window
   pub empty : request-count log ≡ 0 → closing-cost t log ≡ prices-in t log .hold * window (prices-in t log)
 
@@ -182,8 +183,8 @@ close-line t g log a =
     let n = request-count log in
     let passes : close-verdict (run (opened t log) (all-calls log)) ≡ Passed = closes t (given-priced t g) log a in
     let w = close-within t g (header-of log) (opened t log) (for-log (starts t (given-priced t g) log a)) (all-calls log) passes in
-    let least : w .claimed .least ≡ getD (least-costs t log) n 0 =
-    least-of t g log n a (omega arith) (w .claimed) ∙ sym (planned-best t log n a (omega arith) .least-is) in
+    let least : w .claimed .least ≡ getD (least-costs t none log) n 0 =
+    least-of t g log n a (omega arith) (w .claimed) ∙ sym (planned-best t none tt log n a (omega arith) .least-is) in
     record {
       passes = passes;
       answers = w .answers;

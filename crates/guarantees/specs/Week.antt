@@ -1,6 +1,7 @@
 -- A worked week of 01: what is handed in, what 01 and 02 say of it, and the test that the definitions say the same. Assumes nothing.
 use mathlib.Core.Bool.{Bool, true}
 use mathlib.Core.List.{List, [], _∷_}
+use mathlib.Core.Option.{Option, none, some}
 use Prim.Native.Nat.{ℕ, suc}
 use Prim.Native.String.{String}
 use lib.Dec.{eqb}
@@ -15,6 +16,7 @@ use Rattle.prices.specs.Offer.{built-in-offer}
 use Rattle.log.specs.declared.Header.{Header}
 use Rattle.log.specs.Conditions.{verdict-of}
 use Rattle.log.specs.Contents.{contents, encode}
+use Rattle.model.specs.Rates.{Rates, rates}
 use Rattle.model.specs.Requests.{Requests, requests}
 use Rattle.model.specs.RowForm.{flat}
 use Rattle.model.specs.Sums.{total}
@@ -44,13 +46,15 @@ pub record Given : Type 0 where
 
 -- a planned week: least and running cost before any request and after each, the closing cost after all and the quote, the plan's and the online cache's
 -- marks, the plan's rows as numbers
+-- a week with an upload price: the plan's cost, marks and rows
 -- a tied week: how many legal markings have a cost
--- a checked list of rows: number and place of a refusal and 0, or 0, 0 and the cost
+-- a checked list of rows, with an upload price or with none: number and place of a refusal and 0, or 0, 0 and the cost
 -- a log: the verdict's number and place
 -- a printed week: what the program writes for its log
 pub data Week : Type 0 where
   planned : Given → (least running : List ℕ) → (closing quoted : ℕ) → (marks live rows : List ℕ) → Week
-  checked : Given → (rows : List ℕ) → (number place cost : ℕ) → Week
+  uploading : Given → (upload least : ℕ) → (marks rows : List ℕ) → Week
+  checked : Given → (upload : Option ℕ) → (rows : List ℕ) → (number place cost : ℕ) → Week
   logged : Given → (number place : ℕ) → Week
   tied : Given → (cost count : ℕ) → Week
   printed : Given → (text : String) → Week
@@ -74,6 +78,10 @@ quote-numbers (quote.Refused r) = r .number ∷ r .place ∷ 0 ∷ []
 unfoldable pub requests-given : Given → Requests
 requests-given g = requests (g .header .home) (g .seconds) (g .servers)
 
+-- the prices of its class, with an upload price or with none
+unfoldable pub rates-given : Given → Option ℕ → Rates
+rates-given g u = rates (prices-of classes (g .header .«class»)) u
+
 -- the letter of a scan's answer; 0 for a refusal
 unfoldable pub live-letter : ScanOutcome → ℕ
 live-letter (scan.Kept cost) = letter K
@@ -82,17 +90,17 @@ live-letter (scan.Refused r) = 0
 
 -- the least cost of the first 0, 1, 2, .. requests
 unfoldable pub least-so-far : Given → List ℕ
-least-so-far g = build (suc (length (g .seconds))) (λ k. plan-cost (prices-of classes (g .header .«class»)) (requests-given g) k)
+least-so-far g = build (suc (length (g .seconds))) (λ k. plan-cost (rates-given g none) (requests-given g) k)
 
 -- the marks of the plan over the whole week
-unfoldable pub plan-letters : Given → List ℕ
-plan-letters g =
-    let m = plan (prices-of classes (g .header .«class»)) (requests-given g) (length (g .seconds)) in
+unfoldable pub plan-letters : Given → Option ℕ → List ℕ
+plan-letters g u =
+    let m = plan (rates-given g u) (requests-given g) (length (g .seconds)) in
     build (length (g .seconds)) (λ k. letter (m (suc k)))
 
 -- the numbers of the plan's rows
-unfoldable pub plan-numbers : Given → List ℕ
-plan-numbers g = flat (plan-rows (prices-of classes (g .header .«class»)) (requests-given g) (g .header .«server_count») (length (g .seconds)))
+unfoldable pub plan-numbers : Given → Option ℕ → List ℕ
+plan-numbers g u = flat (plan-rows (rates-given g u) (requests-given g) (g .header .«server_count») (length (g .seconds)))
 
 -- the running cost of a state and after each request served from it; the closing cost in the end; the mark of each request
 unfoldable pub costs-from : Cache → List ℕ → List ℕ → List ℕ → List ℕ
@@ -125,15 +133,18 @@ right (planned g least costs closing quoted marks live rows) =
     (both (same (costs-from (start-of g) (g .header .id) (g .seconds) (g .servers)) costs)
     (both (eqb (close-after (start-of g) (g .header .id) (g .seconds) (g .servers)) closing)
     (both (same (quote-numbers (quote-answer built-in (log-of g))) (0 ∷ 0 ∷ quoted ∷ []))
-    (both (same (plan-letters g) marks)
+    (both (same (plan-letters g none) marks)
     (both (same (letters-from (start-of g) (g .header .id) (g .seconds) (g .servers)) live)
-    (same (plan-numbers g) rows))))))
-right (checked g rows number place c) = same (answer-numbers (check-answer built-in (log-of g) rows)) (number ∷ place ∷ c ∷ [])
+    (same (plan-numbers g none) rows))))))
+right (uploading g y least marks rows) =
+    both (eqb (plan-cost (rates-given g (some y)) (requests-given g) (length (g .seconds))) least)
+    (both (same (plan-letters g (some y)) marks) (same (plan-numbers g (some y)) rows))
+right (checked g u rows number place c) = same (answer-numbers (check-answer built-in u (log-of g) rows)) (number ∷ place ∷ c ∷ [])
 right (logged g number place) = same (as-numbers (verdict-of built-in (log-of g))) (number ∷ place ∷ [])
 right (tied g c n) =
     let q = requests-given g in
     let k = length (g .seconds) in
-    eqb (total (λ m. pick (eqb (cost (prices-of classes (g .header .«class»)) q m k) c) 1 0) (markings q k)) n
+    eqb (total (λ m. pick (eqb (cost (rates-given g none) q m k) c) 1 0) (markings (rates-given g none) q k)) n
 right (printed g text) = same (output built-in (log-of g)) (ascii text)
 
 -- every week of a table is right

@@ -5,11 +5,11 @@ use mathlib.Core.Path.{_≡_, refl}
 use native.Mathlib.Omega.{arith}
 use Prim.Native.Nat.{ℕ, zero, suc, pred, _-_, _*_, _≤_, _<_, min}
 use lib.Dec.{eqb}
-use Rattle.prices.specs.declared.Prices.{Prices}
+use Rattle.model.specs.Rates.{Rates, some?}
 use Rattle.model.specs.Requests.{Requests, latest, previous}
 use Rattle.model.specs.RequestLaws.{previous-some}
-use Rattle.model.specs.Marking.{Mark, K, S, legal, gap}
-use Rattle.model.specs.Table.{open-gap, table, send-price, best}
+use Rattle.model.specs.Marking.{Mark, K, S, U, legal, gap}
+use Rattle.model.specs.Table.{open-gap, table, send-price, cheaper, away-price, may-leave, best}
 
 -- they agree up to request n
 pub record Alike (q q′ : Requests) (n : ℕ) : Type 0 where
@@ -30,20 +30,21 @@ module _ (q q′ : Requests) (n : ℕ) (alike : Alike q q′ n) where
       rw (alike .servers i h) (latest-alike (q .server) (q′ .server) (q′ .server i) i (λ l a. alike .servers l (omega arith)))
 
   -- the same legal marks
-  pub legal-alike : (i : ℕ) (a : Mark) → i ≤ n → legal q i a ≡ legal q′ i a
+  pub legal-alike : (p : Rates) (i : ℕ) (a : Mark) → i ≤ n → legal p q i a ≡ legal p q′ i a
   unfolding legal
-  legal-alike i K h = rw (previous-alike i h)
-  legal-alike i S h =
+  legal-alike p i K h = rw (previous-alike i h)
+  legal-alike p i U h = refl
+  legal-alike p i S h =
       let e : not (eqb (q .server i) (q .server (pred i))) ≡ not (eqb (q′ .server i) (q′ .server (pred i))) = rw (alike .servers i h, alike .servers (pred i) (omega arith)) in
       e
 
   -- the same open gaps
-  pub open-gap-alike : (p : Prices) (i c : ℕ) → i < n → open-gap p q i c ≡ open-gap p q′ i c
+  pub open-gap-alike : (p : Rates) (i c : ℕ) → i < n → open-gap p q i c ≡ open-gap p q′ i c
   unfolding open-gap gap
   open-gap-alike p i c h = rw (alike .times (suc i) h, alike .times i (omega arith))
 
   -- the tables are the same where their prices and what they allow are
-  pub table-alike : (p : Prices) (allow allow′ : ℕ → Bool) (away away′ : ℕ → ℕ → ℕ) → ((i : ℕ) → i ≤ n → allow i ≡ allow′ i)
+  pub table-alike : (p : Rates) (allow allow′ : ℕ → Bool) (away away′ : ℕ → ℕ → ℕ) → ((i : ℕ) → i ≤ n → allow i ≡ allow′ i)
       → ((i c : ℕ) → i < n → away i c ≡ away′ i c) → (i c : ℕ) → i ≤ n → table p q allow away i c ≡ table p q′ allow′ away′ i c
   unfolding table
   table-alike p allow allow′ away away′ may pays zero c h = refl
@@ -61,8 +62,8 @@ module _ (q q′ : Requests) (n : ℕ) (alike : Alike q q′ n) where
       go (some j) false e a ih = rw (previous-alike (suc i) h, e, may (suc i) h, a, table) (omega (arith, spans j e, ih (min c j)))
 
   -- the same table of the legal markings
-  pub best-alike : (p : Prices) (i c : ℕ) → i ≤ n → best p q i c ≡ best p q′ i c
-  unfolding best send-price
+  pub best-alike : (p : Rates) (i c : ℕ) → i ≤ n → best p q i c ≡ best p q′ i c
+  unfolding best send-price away-price may-leave
   best-alike p =
-      table-alike p (λ i. legal q i S) (λ i. legal q′ i S) (send-price p q) (send-price p q′) (λ i h. legal-alike i S h)
-      (λ i c h. rw (open-gap-alike p i c h))
+      table-alike p (may-leave p q) (may-leave p q′) (away-price p q) (away-price p q′) (λ i h. rw (legal-alike p i S h, legal-alike p i U h))
+      (λ i c h. rw (legal-alike p (suc i) S h, open-gap-alike p i c h))

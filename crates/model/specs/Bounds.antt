@@ -1,4 +1,5 @@
--- Bounds of the least cost: at least what each request costs by itself, at least one copy held throughout, and at most both together.
+-- Bounds of the least cost: without uploads at least what each request costs by itself, and at least one copy held throughout; with uploads or
+-- without at most both together.
 use mathlib.Core.Bool.{Bool, true, false}
 use mathlib.Core.Logic.{_⊎_, inl, inr}
 use mathlib.Core.Option.{Option, none, some}
@@ -7,35 +8,36 @@ use native.Mathlib.Nat.{mul-le-mul-left, mul-sub, min-eq-left, min-eq-right}
 use native.Mathlib.Omega.{arith}
 use Prim.Native.Nat.{ℕ, zero, suc, _+_, _*_, _≤_, _<_, min}
 use Rattle.base.specs.Choice.{le-or-lt}
-use Rattle.prices.specs.declared.Prices.{Prices}
+use Rattle.model.specs.Rates.{Rates, pair}
 use Rattle.model.specs.Sums.{sum}
 use Rattle.model.specs.Requests.{Requests, previous, Rising}
 use Rattle.model.specs.RequestLaws.{previous-some, rises-le}
 use Rattle.model.specs.Quote.{least-own}
-use Rattle.model.specs.Marking.{S, legal}
-use Rattle.model.specs.Table.{open-gap, table, send-price, free, best}
-use Rattle.model.specs.TableLaws.{held, span, open-gap-shut, open-gap-open, send-fair, May, table-away, table-kept, Attained, gone, kept, table-cases, table-rises, table-slope-upto}
-use Rattle.model.specs.BestLaws.{forced-next, best-zero, best-S, best-K}
+use Rattle.model.specs.Marking.{S, keeps, loads, legal, fee}
+use Rattle.model.specs.Table.{open-gap, table, send-price, away-price, may-leave, best}
+use Rattle.model.specs.TableLaws.{held, span, open-gap-shut, open-gap-open, send-fair, Attained, gone, kept, table-cases, table-rises, table-slope-upto}
+use Rattle.model.specs.Leaving.{leave-price, cheaper-fair}
+use Rattle.model.specs.BestLaws.{forced-next, best-zero, best-leave, best-K, best-plain}
 
-module _ (p : Prices) (q : Requests) where
+module _ (p : Rates) (q : Requests) where
   -- what a request costs by itself is at most a transfer
-  own-transfer : (i : ℕ) → least-own p q i ≤ p .transfer
+  own-transfer : (i : ℕ) → least-own (pair p) q i ≤ p .transfer
   unfolding least-own
   own-transfer i = go (previous q i) refl
     where
-      go : (o : Option ℕ) → previous q i ≡ o → least-own p q i ≤ p .transfer
+      go : (o : Option ℕ) → previous q i ≡ o → least-own (pair p) q i ≤ p .transfer
       go none e = rw (e, least-own) (omega arith)
       go (some j) e = rw (e, least-own) (omega arith)
 
   -- at most its span
-  own-span : (i j : ℕ) → previous q i ≡ some j → least-own p q i ≤ span p q j i
+  own-span : (i j : ℕ) → previous q i ≡ some j → least-own (pair p) q i ≤ span p q j i
   unfolding least-own
   own-span i j e = rw (e, least-own) (omega arith)
 
   -- which of the two it is
   data Own (i : ℕ) : Type 0 where
-    by-span : (j : ℕ) → previous q i ≡ some j → least-own p q i ≡ span p q j i → Own i
-    by-transfer : least-own p q i ≡ p .transfer → Own i
+    by-span : (j : ℕ) → previous q i ≡ some j → least-own (pair p) q i ≡ span p q j i → Own i
+    by-transfer : least-own (pair p) q i ≡ p .transfer → Own i
 
   -- it is one of them
   own-cases : (i : ℕ) → Own i
@@ -51,17 +53,22 @@ module _ (p : Prices) (q : Requests) where
       go (some j) e = two j e (le-or-lt (span p q j i) (p .transfer))
 
   -- all together at most a transfer for each
-  pub owns-most : (n : ℕ) → sum n (least-own p q) ≤ p .transfer * n
+  pub owns-most : (n : ℕ) → sum n (least-own (pair p) q) ≤ p .transfer * n
   unfolding sum
   owns-most zero = omega arith
   owns-most (suc n) = omega (arith, owns-most n, own-transfer (suc n))
 
   -- what holds of a table of the first n requests, whatever is allowed
   pub record Bounded (n : ℕ) (t : ℕ → ℕ → ℕ) : Type 0 where
-    pub owns : (i c : ℕ) → sum i (least-own p q) ≤ t i c
+    pub owns : (i c : ℕ) → sum i (least-own (pair p) q) ≤ t i c
     pub holds : (i c : ℕ) → c ≤ i → i ≤ n → held p q c ≤ t i c
     pub rises : (i c d : ℕ) → c ≤ d → t i c ≤ t i d
     pub slope : (i c d : ℕ) → c ≤ d → d ≤ n → t i d + held p q c ≤ t i c + held p q d
+
+  -- the table of the legal markings rises with c
+  pub best-rises : (i c d : ℕ) → c ≤ d → best p q i c ≤ best p q i d
+  unfolding best away-price
+  best-rises = table-rises p q (may-leave p q) (away-price p q) (cheaper-fair p q (λ i. legal p q (suc i) S))
 
   module _ (n : ℕ) (rising : Rising q n) where
     -- holding longer costs no less
@@ -97,12 +104,12 @@ module _ (p : Prices) (q : Requests) where
       t = table p q allow (send-price p q)
 
       -- each mark costs its request's least or more
-      table-owns : (i c : ℕ) → sum i (least-own p q) ≤ t i c
+      table-owns : (i c : ℕ) → sum i (least-own (pair p) q) ≤ t i c
       unfolding table sum send-price
       table-owns zero c = omega arith
       table-owns (suc i) c = go (table-cases p q allow (send-price p q) i c) (table-owns i)
         where
-          go : Attained p q allow (send-price p q) i c → ((c : ℕ) → sum i (least-own p q) ≤ t i c) → sum (suc i) (least-own p q) ≤ t (suc i) c
+          go : Attained p q allow (send-price p q) i c → ((c : ℕ) → sum i (least-own (pair p) q) ≤ t i c) → sum (suc i) (least-own (pair p) q) ≤ t (suc i) c
           go (gone may e) ih = omega (arith, ih (min c i), own-transfer (suc i))
           go (kept j z e) ih = omega (arith, ih (min c j), own-span (suc i) j z)
 
@@ -128,52 +135,23 @@ module _ (p : Prices) (q : Requests) where
             slope = table-slope-upto p q allow (send-price p q) (send-fair p q) n (rises-le rising);
           }
 
-    -- so for the table where S is allowed everywhere
-    pub free-bounded : Bounded n (free p q)
-    unfolding free
-    free-bounded = table-bounded (λ i. true)
+    -- so for the table of the legal markings, where there is no upload price
+    pub best-bounded : p .upload ≡ none → Bounded n (best p q)
+    best-bounded u = rw (best-plain p q u) (table-bounded (λ i. legal p q i S))
 
-    -- and for that of the legal markings
-    pub best-bounded : Bounded n (best p q)
-    unfolding best
-    best-bounded = table-bounded (λ i. legal q i S)
-
-    -- the least is at most both lower bounds together: where S is allowed everywhere, for every c
-    pub free-most : (i c : ℕ) → c ≤ i → i ≤ n → free p q i c ≤ sum i (least-own p q) + held p q c
-    unfolding free table sum send-price May
-    free-most zero c h k = omega arith
-    free-most (suc i) c h k = go (own-cases (suc i)) (free-most i)
-      where
-        go : Own (suc i)
-            → ((c : ℕ) → c ≤ i → i ≤ n → free p q i c ≤ sum i (least-own p q) + held p q c) → free p q (suc i) c ≤ sum (suc i) (least-own p q) + held p q c
-        go (by-span j z e) ih =
-            let b : j < suc i = previous-some q (suc i) j z .below in
-            omega (arith, e, table-kept p q (λ i. true) (send-price p q) i c j z, ih (min c j) (omega arith) (omega arith), held-rises (min c j) c (omega arith) (omega arith))
-        go (by-transfer e) ih = omega (arith, e, table-away p q (λ i. true) (send-price p q) i c (inl refl), ih (min c i) (omega arith) (omega arith), gap-held i c h k)
-
-    -- and for the legal markings with no gap covered
-    pub best-most : (i : ℕ) → i ≤ n → best p q i i ≤ sum i (least-own p q) + held p q i
-    unfolding sum send-price
+    -- the least is at most both lower bounds together
+    pub best-most : (i : ℕ) → i ≤ n → best p q i i ≤ sum i (least-own (pair p) q) + held p q i
+    unfolding sum keeps fee loads
     best-most zero k = omega (arith, best-zero p q 0)
-    best-most (suc i) k = go (own-cases (suc i)) (legal q (suc i) S) refl (best-most i (omega arith))
+    best-most (suc i) k = go (own-cases (suc i)) (legal p q (suc i) S) refl (best-most i (omega arith))
       where
         low : (j : ℕ) → j ≤ i → best p q i (min (suc i) j) ≤ best p q i i
-        low j h = best-bounded .rises i (min (suc i) j) i (omega arith)
+        low j h = best-rises i (min (suc i) j) i (omega arith)
 
         go : Own (suc i)
-            → (b : Bool) → legal q (suc i) S ≡ b → best p q i i ≤ sum i (least-own p q) + held p q i → best p q (suc i) (suc i) ≤ sum (suc i) (least-own p q) + held p q (suc i)
+            → (b : Bool) → legal p q (suc i) S ≡ b → best p q i i ≤ sum i (least-own (pair p) q) + held p q i → best p q (suc i) (suc i) ≤ sum (suc i) (least-own (pair p) q) + held p q (suc i)
         go (by-span j z e) b l ih =
             let a : j < suc i = previous-some q (suc i) j z .below in
             omega (arith, e, best-K p q i (suc i) j z, low j (omega arith), held-rises i (suc i) (omega arith) k)
-        go (by-transfer e) true l ih = omega (arith, e, best-S p q i (suc i) l, low i (omega arith), gap-held i (suc i) (omega arith) k, ap (held p q) (min-eq-right {n = i} {m = suc i} (omega arith)))
-        go (by-transfer e) false l ih = omega (arith, e, best-K p q i (suc i) i (forced-next q i l), low i (omega arith), held-span (suc i) i (omega arith) k)
-
-  -- to allow S everywhere costs no more
-  pub free-best : (i c : ℕ) → free p q i c ≤ best p q i c
-  unfolding free best table May
-  free-best zero c = omega arith
-  free-best (suc i) c = go (table-cases p q (λ i. legal q i S) (send-price p q) i c) (free-best i)
-    where
-      go : Attained p q (λ i. legal q i S) (send-price p q) i c → ((c : ℕ) → free p q i c ≤ best p q i c) → free p q (suc i) c ≤ best p q (suc i) c
-      go (gone may e) ih = omega (arith, e, table-away p q (λ i. true) (send-price p q) i c (inl refl), ih (min c i))
-      go (kept j z e) ih = omega (arith, e, table-kept p q (λ i. true) (send-price p q) i c j z, ih (min c j))
+        go (by-transfer e) true l ih = omega (arith, e, best-leave p q i (suc i) S refl l, low i (omega arith), gap-held i (suc i) (omega arith) k, ap (held p q) (min-eq-right {n = i} {m = suc i} (omega arith)))
+        go (by-transfer e) false l ih = omega (arith, e, best-K p q i (suc i) i (forced-next p q i l), low i (omega arith), held-span (suc i) i (omega arith) k)

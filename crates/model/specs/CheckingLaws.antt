@@ -5,45 +5,45 @@ use mathlib.Core.Logic.{_↔_}
 use mathlib.Core.Path.{_≡_, refl, sym, ap, _∙_}
 use native.Mathlib.Omega.{arith}
 use Prim.Native.Nat.{ℕ, zero, suc, _*_, _%_, _≤_, _<_}
-use lib.Dec.{ltb, eqb}
-use lib.ListN.{getD, length}
-use borrow.Author.Tests.{ltb-false, eqb-true, eqb-false, lt-ltb, le-ltb, ne-eqb, not-false}
+use lib.Dec.{eqb}
+use lib.ListN.{length}
+use borrow.Author.Tests.{eqb-true, eqb-false, lt-ltb, ne-eqb, not-false}
 use Rattle.base.specs.declared.Verdict.the-variants.{Passed}
 use Rattle.base.specs.Choice.{either, not-both}
 use Rattle.base.specs.Refusals.{Condition, refuse, first, each, nth}
 use Rattle.base.specs.RefusalLaws.{first-failed, append-passed, each-passed, first-passed}
-use Rattle.prices.specs.declared.Prices.{Prices}
+use Rattle.model.specs.Rates.{Rates}
 use Rattle.base.specs.ChoiceLaws.{either-false}
 use Rattle.model.specs.Requests.{Requests}
-use Rattle.model.specs.Schedule.{Row, hold, move, transfer, Stands, Backed, Feasible, cost-of}
+use Rattle.model.specs.Schedule.{Row, hold, move, transfer, upload, Stands, Backed, Feasible, cost-of}
 use Rattle.model.specs.Standing.{stands}
 use Rattle.model.specs.StandingLaws.{stands-sound, stands-complete}
 use Rattle.model.specs.RowForm.{flat, row-at, rows-of, fits, follows, well-formed}
 use Rattle.model.specs.RowLaws.{fits-move, row-member, member-row, Formed, formed, well-formed-of, ordered-follows, follows-ordered}
-use Rattle.model.specs.FlatLaws.{rows-of-flat, flat-length, flat-kinds}
-use Rattle.model.specs.Checking.{row-count, misfits, misplaced, row-conditions, backed, copy-condition, serve-condition, form-conditions, schedule-conditions, check-cost, Scheduled}
+use Rattle.model.specs.FlatLaws.{rows-of-flat, flat-length, flat-kinds, row-offers}
+use Rattle.model.specs.Checking.{row-count, kind-fits, kind-of, misfits, misplaced, row-conditions, backed, copy-condition, serve-condition, form-conditions, schedule-conditions, check-cost, Scheduled}
 
 -- ---- what each condition's failing says
 
--- the kind of row i is 0 or 1, there is a request, and the row fits
-pub record Fitting (count : ℕ) (q : Requests) (n : ℕ) (ns : List ℕ) (i : ℕ) : Type 0 where
-  pub kind : getD ns (4 * i) 0 ≤ 1
+-- the kind of row i fits, there is a request, and the row fits
+pub record Fitting (p : Rates) (count : ℕ) (q : Requests) (n : ℕ) (ns : List ℕ) (i : ℕ) : Type 0 where
+  pub kind : kind-of p ns i ≡ true
   pub asked : 0 < n
   pub fit : fits count (q .time n) (row-at ns i) ≡ true
 
-module _ (count : ℕ) (q : Requests) (n : ℕ) (ns : List ℕ) (i : ℕ) where
-  fitting : misfits count q n ns i ≡ false → Fitting count q n ns i
+module _ (p : Rates) (count : ℕ) (q : Requests) (n : ℕ) (ns : List ℕ) (i : ℕ) where
+  fitting : misfits p count q n ns i ≡ false → Fitting p count q n ns i
   unfolding misfits
   fitting e =
       let fit = fits count (q .time n) (row-at ns i) in
-      let (a, f) = either-false (ltb 1 (getD ns (4 * i) 0)) (either (eqb n 0) (not fit)) e in
+      let (a, f) = either-false (not (kind-of p ns i)) (either (eqb n 0) (not fit)) e in
       let (b, c) = either-false (eqb n 0) (not fit) f in
       let some : n ≡ 0 → ⊥ = eqb-false n 0 b in
-      record { kind = ltb-false 1 (getD ns (4 * i) 0) a; asked = omega arith; fit = not-false fit c }
+      record { kind = not-false (kind-of p ns i) a; asked = omega arith; fit = not-false fit c }
 
-  fitting-not : Fitting count q n ns i → misfits count q n ns i ≡ false
+  fitting-not : Fitting p count q n ns i → misfits p count q n ns i ≡ false
   unfolding misfits
-  fitting-not h = rw (le-ltb 1 (getD ns (4 * i) 0) (h .kind), ne-eqb n 0 (omega arith), h .fit)
+  fitting-not h = rw (h .kind, ne-eqb n 0 (omega arith), h .fit)
 
 -- row i may follow the row before it, if there is one
 placed : (ns : List ℕ) (i : ℕ) → misplaced ns (suc i) ≡ false → follows (row-at ns i) (row-at ns (suc i)) ≡ true
@@ -63,17 +63,17 @@ alone-passed number place b e = rw e
 -- ---- all conditions fail
 
 -- what all of them say
-record Clear (count : ℕ) (q : Requests) (n : ℕ) (ns : List ℕ) : Type 0 where
+record Clear (p : Rates) (count : ℕ) (q : Requests) (n : ℕ) (ns : List ℕ) : Type 0 where
   whole : length ns % 4 ≡ 0
-  fitting-at : (i : ℕ) → i < row-count ns → Fitting count q n ns i
+  fitting-at : (i : ℕ) → i < row-count ns → Fitting p count q n ns i
   placed-at : (i : ℕ) → suc i < row-count ns → follows (row-at ns i) (row-at ns (suc i)) ≡ true
   backed-at : (i : ℕ) → i < row-count ns → backed count (q .server 0) (rows-of ns) (row-at ns i) ≡ true
   served-at : (i : ℕ) → i < n → stands count (q .server 0) (rows-of ns) (q .server (suc i)) (q .time (suc i)) ≡ true
 
-module _ (count : ℕ) (q : Requests) (n : ℕ) (ns : List ℕ) where
+module _ (p : Rates) (count : ℕ) (q : Requests) (n : ℕ) (ns : List ℕ) where
   -- the conditions of the rows, of their copies, and of the requests
   abbrev of-rows : List Condition
-  of-rows = each (row-conditions count q n ns) (row-count ns)
+  of-rows = each (row-conditions p count q n ns) (row-count ns)
 
   abbrev of-copies : List Condition
   of-copies = each (copy-condition count q ns) (row-count ns)
@@ -82,19 +82,19 @@ module _ (count : ℕ) (q : Requests) (n : ℕ) (ns : List ℕ) where
   of-requests = each (serve-condition count q ns) n
 
   -- they all fail if and only if that holds
-  clear : first (schedule-conditions count q n ns) ≡ Passed → Clear count q n ns
+  clear : first (schedule-conditions p count q n ns) ≡ Passed → Clear p count q n ns
   unfolding schedule-conditions row-conditions copy-condition serve-condition
   clear e =
       record {
         whole = eqb-true (length ns % 4) 0 (not-false (eqb (length ns % 4) 0) four);
-        fitting-at = λ i l. fitting count q n ns i (row i l 0);
+        fitting-at = λ i l. fitting p count q n ns i (row i l 0);
         placed-at = λ i l. placed ns i (row (suc i) l 1);
         backed-at = λ i l. not-false _ (first-passed _ .0 (each-passed _ _ .0 (rest .0) i l) 0);
         served-at = λ i l. not-false _ (first-passed _ .0 (each-passed _ _ .0 (rest .1) i l) 0);
       }
     where
       four : not (eqb (length ns % 4) 0) ≡ false
-      four = first-passed (schedule-conditions count q n ns) .0 e 0
+      four = first-passed (schedule-conditions p count q n ns) .0 e 0
 
       rows : (first of-rows ≡ Passed) × (first (of-copies ++ of-requests) ≡ Passed)
       rows = append-passed of-rows (of-copies ++ of-requests) .0 (sym (first-failed _ _ four) ∙ e)
@@ -102,24 +102,24 @@ module _ (count : ℕ) (q : Requests) (n : ℕ) (ns : List ℕ) where
       rest : (first of-copies ≡ Passed) × (first of-requests ≡ Passed)
       rest = append-passed of-copies of-requests .0 (rows .1)
 
-      row : (i : ℕ) → i < row-count ns → (j : ℕ) → nth (row-conditions count q n ns i) j .holds ≡ false
-      row i l = first-passed (row-conditions count q n ns i) .0 (each-passed (row-conditions count q n ns) (row-count ns) .0 (rows .0) i l)
+      row : (i : ℕ) → i < row-count ns → (j : ℕ) → nth (row-conditions p count q n ns i) j .holds ≡ false
+      row i l = first-passed (row-conditions p count q n ns i) .0 (each-passed (row-conditions p count q n ns) (row-count ns) .0 (rows .0) i l)
 
-  clear-passed : Clear count q n ns → first (schedule-conditions count q n ns) ≡ Passed
+  clear-passed : Clear p count q n ns → first (schedule-conditions p count q n ns) ≡ Passed
   unfolding schedule-conditions row-conditions copy-condition serve-condition
   clear-passed c =
       first-failed (refuse 14 0 (not (eqb (length ns % 4) 0))) _ (rw (c .whole))
       ∙ append-passed of-rows (of-copies ++ of-requests) .1 (
-        each-passed (row-conditions count q n ns) (row-count ns) .1 row,
+        each-passed (row-conditions p count q n ns) (row-count ns) .1 row,
         append-passed of-copies of-requests .1 (
           each-passed _ _ .1 (λ i l. alone-passed 17 (suc i) _ (ap not (c .backed-at i l))),
           each-passed _ _ .1 (λ i l. alone-passed 18 (suc i) _ (ap not (c .served-at i l))),
         ),
       )
     where
-      row : (i : ℕ) → i < row-count ns → first (row-conditions count q n ns i) ≡ Passed
+      row : (i : ℕ) → i < row-count ns → first (row-conditions p count q n ns i) ≡ Passed
       row i l =
-          first-failed (refuse 15 (suc i) (misfits count q n ns i)) _ (fitting-not count q n ns i (c .fitting-at i l))
+          first-failed (refuse 15 (suc i) (misfits p count q n ns i)) _ (fitting-not p count q n ns i (c .fitting-at i l))
           ∙ alone-passed 16 (suc i) (misplaced ns i) (placed-not ns i (λ j e. c .placed-at j (omega arith)))
 
 -- ---- what the conditions say of the rows
@@ -129,9 +129,9 @@ pub targets : (count n last : ℕ) (rows : List Row) → Formed count n last row
     → (y x τ : ℕ) → List·Memᴰ (move (transfer y x τ)) rows → x < count
 targets count n last rows f y x τ m = fits-move count last y x τ (f .fit (move (transfer y x τ)) m) .1
 
-module _ (count : ℕ) (q : Requests) (n : ℕ) (ns : List ℕ) where
+module _ (p : Rates) (count : ℕ) (q : Requests) (n : ℕ) (ns : List ℕ) where
   -- rows that fit, each after the one before it, are well formed
-  shaped : ((i : ℕ) → i < row-count ns → Fitting count q n ns i)
+  shaped : ((i : ℕ) → i < row-count ns → Fitting p count q n ns i)
       → ((i : ℕ) → suc i < row-count ns → follows (row-at ns i) (row-at ns (suc i)) ≡ true) → Formed count n (q .time n) (rows-of ns)
   unfolding rows-of row-count
   shaped fitting-at placed-at =
@@ -141,7 +141,7 @@ module _ (count : ℕ) (q : Requests) (n : ℕ) (ns : List ℕ) where
       row r m = let (i, l, e) = member-row ns (row-count ns) m in let f = fitting-at i l in (f .asked, rw e (f .fit))
 
   -- that is what all conditions say
-  accepted : Clear count q n ns → Scheduled count q n ns
+  accepted : Clear p count q n ns → Scheduled p count q n ns
   unfolding rows-of row-count backed
   accepted c =
       record {
@@ -152,6 +152,7 @@ module _ (count : ℕ) (q : Requests) (n : ℕ) (ns : List ℕ) where
           begins = λ x a b m. there x a (back (hold x a b) m);
           leaves = λ y x τ m. there y τ (back (move (transfer y x τ)) m);
           serves = serves;
+          offered = λ x τ m. (let (i, l, e) = member-row ns (row-count ns) m in row-offers p ns i x τ e (c .fitting-at i l .kind));
         };
       }
     where
@@ -165,7 +166,7 @@ module _ (count : ℕ) (q : Requests) (n : ℕ) (ns : List ℕ) where
       serves zero l h = absurd (omega arith)
       serves (suc i) l h = there (q .server (suc i)) (q .time (suc i)) (c .served-at i h)
 
-  scheduled-clear : Scheduled count q n ns → Clear count q n ns
+  scheduled-clear : Scheduled p count q n ns → Clear p count q n ns
   unfolding rows-of row-count backed
   scheduled-clear c =
       record {
@@ -188,10 +189,11 @@ module _ (count : ℕ) (q : Requests) (n : ℕ) (ns : List ℕ) where
       back : (r : Row) → List·Memᴰ r (rows-of ns) → backed count (q .server 0) (rows-of ns) r ≡ true
       back (hold x a b) m = there (c .feasible .begins x a b m)
       back (move (transfer y x τ)) m = there (c .feasible .leaves y x τ m)
+      back (move (upload x τ)) m = refl
 
   -- the conditions all fail if and only if the rows are accepted
-  pub accepts-iff : (first (schedule-conditions count q n ns) ≡ Passed) ↔ Scheduled count q n ns
-  accepts-iff = (λ e. accepted (clear count q n ns e), λ a. clear-passed count q n ns (scheduled-clear a))
+  pub accepts-iff : (first (schedule-conditions p count q n ns) ≡ Passed) ↔ Scheduled p count q n ns
+  accepts-iff = (λ e. accepted (clear p count q n ns e), λ a. clear-passed p count q n ns (scheduled-clear a))
 
 -- ---- 17 and 18 by where copies stand
 
@@ -201,16 +203,16 @@ fails-iff true f g = (λ e. absurd (not-both e refl), λ h. absurd (h (f refl)))
 fails-iff false f g = (λ e a. not-both (g a) refl, λ h. refl)
 
 -- where none of 14 to 16 holds
-module _ (count : ℕ) (q : Requests) (n : ℕ) (ns : List ℕ) (e : first (form-conditions count q n ns) ≡ Passed) where
+module _ (p : Rates) (count : ℕ) (q : Requests) (n : ℕ) (ns : List ℕ) (e : first (form-conditions p count q n ns) ≡ Passed) where
   shape : Formed count n (q .time n) (rows-of ns)
   unfolding row-conditions
-  shape = shaped count q n ns (λ i l. fitting count q n ns i (row i l 0)) (λ i l. placed ns i (row (suc i) l 1))
+  shape = shaped p count q n ns (λ i l. fitting p count q n ns i (row i l 0)) (λ i l. placed ns i (row (suc i) l 1))
     where
-      rows : first (of-rows count q n ns) ≡ Passed
-      rows = sym (first-failed _ _ (first-passed (form-conditions count q n ns) .0 e 0)) ∙ e
+      rows : first (of-rows p count q n ns) ≡ Passed
+      rows = sym (first-failed _ _ (first-passed (form-conditions p count q n ns) .0 e 0)) ∙ e
 
-      row : (i : ℕ) → i < row-count ns → (j : ℕ) → nth (row-conditions count q n ns i) j .holds ≡ false
-      row i l = first-passed (row-conditions count q n ns i) .0 (each-passed (row-conditions count q n ns) (row-count ns) .0 rows i l)
+      row : (i : ℕ) → i < row-count ns → (j : ℕ) → nth (row-conditions p count q n ns i) j .holds ≡ false
+      row i l = first-passed (row-conditions p count q n ns i) .0 (each-passed (row-conditions p count q n ns) (row-count ns) .0 rows i l)
 
   there : (x τ : ℕ) → stands count (q .server 0) (rows-of ns) x τ ≡ true → Stands (q .server 0) (rows-of ns) x τ
   there = stands-sound count (q .server 0) (rows-of ns)
@@ -226,6 +228,7 @@ module _ (count : ℕ) (q : Requests) (n : ℕ) (ns : List ℕ) (e : first (form
       go : (r : Row) → (not (backed count (q .server 0) (rows-of ns) r) ≡ true) ↔ (Backed (q .server 0) (rows-of ns) r → ⊥)
       go (hold x a b) = fails-iff _ (there x a) (found x a)
       go (move (transfer y x τ)) = fails-iff _ (there y τ) (found y τ)
+      go (move (upload x τ)) = fails-iff true (λ e. tt) (λ e. refl)
 
   -- 18 holds of a request exactly if none stands at its server and second
   pub unserved : (i : ℕ)
@@ -234,16 +237,17 @@ module _ (count : ℕ) (q : Requests) (n : ℕ) (ns : List ℕ) (e : first (form
   unserved i = fails-iff _ (there (q .server (suc i)) (q .time (suc i))) (found (q .server (suc i)) (q .time (suc i)))
 
 -- well-formed and feasible rows, given as numbers, are a schedule
-pub flat-scheduled : (count : ℕ) (q : Requests) (n : ℕ) (rows : List Row) → well-formed count n (q .time n) rows ≡ true → Feasible q n rows
-    → Scheduled count q n (flat rows)
-flat-scheduled count q n rows w f = record {
+pub flat-scheduled : (p : Rates) (count : ℕ) (q : Requests) (n : ℕ) (rows : List Row) → well-formed count n (q .time n) rows ≡ true → Feasible p q n rows
+    → Scheduled p count q n (flat rows)
+unfolding row-count
+flat-scheduled p count q n rows w f = record {
   whole = omega (arith, flat-length rows);
-  kinds = λ i l. flat-kinds rows i;
+  kinds = λ i l. flat-kinds p rows (f .offered) i (omega (arith, flat-length rows));
   shaped = rw (rows-of-flat rows) w;
   feasible = rw (rows-of-flat rows) f;
 }
 
 -- with their cost
-pub flat-cost : (p : Prices) (rows : List Row) → check-cost p (flat rows) ≡ cost-of p rows
+pub flat-cost : (p : Rates) (rows : List Row) → check-cost p (flat rows) ≡ cost-of p rows
 unfolding check-cost
 flat-cost p rows = ap (cost-of p) (rows-of-flat rows)

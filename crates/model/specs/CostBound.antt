@@ -1,4 +1,4 @@
--- The cost of well-formed rows has a bound: holds of one server are disjoint, and transfers rise strictly.
+-- The cost of well-formed rows has a bound: holds of one server are disjoint, and transfers and uploads rise strictly.
 use mathlib.Core.Bool.{true}
 use mathlib.Core.List.{List, [], _∷_}
 use mathlib.Core.Logic.{_⊎_, inl, inr}
@@ -9,11 +9,11 @@ use Prim.Native.Nat.{ℕ, suc, _+_, _-_, _*_, _^_, _≤_, _<_}
 use lib.Dec.{ltb, eqb}
 use borrow.Author.Tests.{ltb-true, eqb-true}
 use Rattle.base.specs.Choice.{both, either, not-both}
-use Rattle.prices.specs.declared.Prices.{Prices}
+use Rattle.model.specs.Rates.{Rates, or-zero, upload-fee}
 use Rattle.model.specs.Sums.{total}
-use Rattle.model.specs.Schedule.{Row, hold, move, transfer, length-of, is-transfer, cost-of}
+use Rattle.model.specs.Schedule.{Row, hold, move, transfer, upload, length-of, is-transfer, is-upload, cost-of}
 use Rattle.base.specs.ChoiceLaws.{both-true, either-true}
-use Rattle.model.specs.RowLaws.{fits-hold, fits-move}
+use Rattle.model.specs.RowLaws.{fits-hold, fits-move, fits-upload}
 use Rattle.model.specs.RowForm.{fits, earlier, follows, ordered, all-fit, well-formed}
 
 -- a number f of each row, and a place g that goes up by at least f from row to row, to no more than a top
@@ -72,6 +72,7 @@ module _ (count last : ℕ) where
   rank : Row → ℕ
   rank (hold x a b) = 0
   rank (move (transfer y x τ)) = (τ * count + y) * count + x
+  rank (move (upload x τ)) = suc last * count * count
 
   -- it is below that of the next second, and of the next source
   rank-second : (y x τ σ : ℕ) → y < count → x < count → τ < σ → 1 + ((τ * count + y) * count + x) ≤ σ * count * count
@@ -89,11 +90,16 @@ module _ (count last : ℕ) where
     where
       end : (r : Row) → fits count last r ≡ true → is-transfer r + rank r ≤ suc last * count * count
       end (hold x a b) e = omega arith
+      end (move (upload x τ)) e = omega arith
       end (move (transfer y x τ)) e = let (f, g, h) = fits-move count last y x τ e in rank-second y x τ (suc last) f g (omega arith)
 
       step : (r s : Row) → fits count last r ≡ true → follows r s ≡ true → is-transfer r + rank r ≤ rank s
       step (hold x a b) s e o = omega arith
       step (move (transfer y x τ)) (hold z c d) e o = absurd (not-both o refl)
+      step (move (transfer y x τ)) (move (upload u σ)) e o = end (move (transfer y x τ)) e
+      step (move (upload x τ)) (hold z c d) e o = absurd (not-both o refl)
+      step (move (upload x τ)) (move (transfer z u σ)) e o = absurd (not-both o refl)
+      step (move (upload x τ)) (move (upload u σ)) e o = omega arith
       step (move (transfer y x τ)) (move (transfer z u σ)) e o = go (fits-move count last y x τ e) (either-true (ltb τ σ) _ o)
         where
           go : (y < count) × (x < count) × (τ ≤ last) → (ltb τ σ ≡ true) ⊎ (both (eqb τ σ) (either (ltb y z) (both (eqb y z) (ltb x u))) ≡ true)
@@ -106,12 +112,44 @@ module _ (count last : ℕ) where
                 | inr l ↦ let (v, w) = both-true (eqb y z) (ltb x u) l in rw (← eqb-true y z v) (omega (arith, ltb-true x u w))
               ])
 
--- for 01's largest server count, second and prices the cost is below 2 to the 64
-pub cost-fits : (p : Prices) (count n last : ℕ) (rows : List Row) → well-formed count n last rows ≡ true → count ≤ 64 → last ≤ 4000000
-    → p .hold ≤ 1000000 → p .transfer ≤ 1000000 → cost-of p rows < 2 ^ 64
+  -- the place of an upload among all of them, by second and target
+  place : Row → ℕ
+  place (hold x a b) = 0
+  place (move (transfer y x τ)) = 0
+  place (move (upload x τ)) = τ * count + x
+
+  -- it is below that of the next second
+  place-second : (x τ σ : ℕ) → x < count → τ < σ → 1 + (τ * count + x) ≤ σ * count
+  place-second x τ σ k h = omega (arith, mul-le-mul-right count h)
+
+  -- the number of uploads
+  pub upload-count : (n : ℕ) (rows : List Row) → well-formed count n last rows ≡ true → total is-upload rows ≤ suc last * count
+  unfolding is-upload place follows earlier
+  upload-count = climb {f = is-upload} {g = place} (record { end = end; step = step })
+    where
+      end : (r : Row) → fits count last r ≡ true → is-upload r + place r ≤ suc last * count
+      end (hold x a b) e = omega arith
+      end (move (transfer y x τ)) e = omega arith
+      end (move (upload x τ)) e = let (f, g) = fits-upload count last x τ e in place-second x τ (suc last) f (omega arith)
+
+      step : (r s : Row) → fits count last r ≡ true → follows r s ≡ true → is-upload r + place r ≤ place s
+      step (hold x a b) s e o = omega arith
+      step (move (transfer y x τ)) s e o = omega arith
+      step (move (upload x τ)) (hold z c d) e o = absurd (not-both o refl)
+      step (move (upload x τ)) (move (transfer z u σ)) e o = absurd (not-both o refl)
+      step (move (upload x τ)) (move (upload u σ)) e o =
+          elim (either-true (ltb τ σ) (both (eqb τ σ) (ltb x u)) o) [
+            | inl h ↦ omega (arith, place-second x τ σ (fits-upload count last x τ e .0) (ltb-true τ σ h))
+            | inr h ↦ let (v, w) = both-true (eqb τ σ) (ltb x u) h in rw (← eqb-true τ σ v) (omega (arith, ltb-true x u w))
+          ]
+
+-- for the largest server count, second and prices the cost is below 2 to the 64
+pub cost-fits : (p : Rates) (count n last : ℕ) (rows : List Row) → well-formed count n last rows ≡ true → count ≤ 64 → last ≤ 4000000
+    → p .hold ≤ 1000000 → p .transfer ≤ 1000000 → upload-fee p ≤ 1000000 → cost-of p rows < 2 ^ 64
 unfolding cost-of
-cost-fits p count n last rows w c l h t =
+cost-fits p count n last rows w c l h t u =
     let a : total length-of rows ≤ 64 * 4000000 = omega (arith, hold-seconds count last n rows w, mul-le-mul c l) in
     let s : suc last ≤ 4000001 = omega arith in
     let d : total is-transfer rows ≤ 4000001 * 64 * 64 = omega (arith, transfer-count count last n rows w, mul-le-mul (mul-le-mul s c) c) in
-    omega (arith, mul-le-mul h a, mul-le-mul t d)
+    let f : total is-upload rows ≤ 4000001 * 64 = omega (arith, upload-count count last n rows w, mul-le-mul s c) in
+    omega (arith, mul-le-mul h a, mul-le-mul t d, mul-le-mul u f)

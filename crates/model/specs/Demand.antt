@@ -8,14 +8,16 @@ use native.Mathlib.Nat.{mul-add, mul-le-mul-left}
 use native.Mathlib.Omega.{arith}
 use Prim.Native.Nat.{ℕ, zero, suc, _+_, _-_, _*_, _≤_, _<_, min}
 use Rattle.base.specs.Choice.{pick, le-or-lt, true-or-false, not-both}
-use Rattle.prices.specs.declared.Prices.{Prices}
+use Rattle.model.specs.Rates.{Rates, some?, upload-fee}
 use Rattle.model.specs.Sums.{sum}
-use Rattle.model.specs.SumLaws.{sum-le, sum-scale, sum-longer, sum-ones, sum-minus, inside, inside-low, sum-inside}
+use Rattle.model.specs.SumLaws.{sum-le, sum-add, sum-scale, sum-longer, sum-ones, sum-minus, inside, inside-low, sum-inside}
 use Rattle.model.specs.Requests.{Requests, previous, Rising}
 use Rattle.model.specs.RequestLaws.{none-some, previous-some, rises-le}
-use Rattle.model.specs.Marking.{Mark, K, S, keeps, some?, legal, begin, sent}
-use Rattle.model.specs.Table.{open-gap, table, send-price, free}
+use Rattle.model.specs.Marking.{Mark, K, S, U, keeps, sends, loads, legal, begin, fee, sent, loaded}
+use Rattle.model.specs.Table.{open-gap, table, send-price, free-price, free}
 use Rattle.model.specs.TableLaws.{May, table-away, table-kept, open-gap-open, open-gap-shut}
+use Rattle.model.specs.MarkLaws.{sends-S}
+use Rattle.model.specs.Leaving.{free-S, free-U}
 
 -- 1 where the span from a previous request to request i holds second τ
 unfoldable pub spanned : Requests → Option ℕ → ℕ → ℕ → ℕ
@@ -56,7 +58,7 @@ spans-kept q from i j τ e = rw e
 
 -- what a table lets a policy do, for the first n requests: keep some since their previous ones, the others for a fee, and the gap before
 -- them if they ask for a copy over it
-pub record Policy (p : Prices) (q : Requests) (n : ℕ) (allow : ℕ → Bool) (away : ℕ → ℕ → ℕ)
+pub record Policy (p : Rates) (q : Requests) (n : ℕ) (allow : ℕ → Bool) (away : ℕ → ℕ → ℕ)
     (from : ℕ → Option ℕ) (fee : ℕ → ℕ) (asks : ℕ → Bool) : Type 0 where
   pub kept : (i j : ℕ) → i < n → from (suc i) ≡ some j → previous q (suc i) ≡ some j
   pub may : (i : ℕ) → i < n → from (suc i) ≡ none → May p q allow (suc i)
@@ -67,7 +69,7 @@ pub record Enough (q : Requests) (from : ℕ → Option ℕ) (asks : ℕ → Boo
   pub spans : (τ : ℕ) → 1 ≤ τ → spans-over q from i τ ≤ D τ
   pub gaps : (l τ : ℕ) → l < c → from (suc l) ≡ none → asks (suc l) ≡ true → q .time l < τ → τ ≤ q .time (suc l) → 1 ≤ D τ
 
-module _ (p : Prices) (q : Requests) (n : ℕ) (r : Rising q n) (allow : ℕ → Bool) (away : ℕ → ℕ → ℕ)
+module _ (p : Rates) (q : Requests) (n : ℕ) (r : Rising q n) (allow : ℕ → Bool) (away : ℕ → ℕ → ℕ)
     (from : ℕ → Option ℕ) (fee : ℕ → ℕ) (asks : ℕ → Bool) (policy : Policy p q n allow away from fee asks) where
   -- the table
   abbrev t : ℕ → ℕ → ℕ
@@ -166,21 +168,23 @@ module _ (p : Prices) (q : Requests) (n : ℕ) (r : Rising q n) (allow : ℕ →
   pub demand-of : (c : ℕ) (D : ℕ → ℕ) → c ≤ n → Enough q from asks D n c → t n c ≤ fees from fee n + p .hold * sum (q .time n) D
   demand-of c D h d = bound n c D (omega arith) h d
 
--- a marking of the first n requests that is K only where there is a previous request
-unfoldable pub Keepable : Requests → ℕ → (ℕ → Mark) → Type 0
-Keepable q n m = (i : ℕ) → i < n → m (suc i) ≡ K → legal q (suc i) K ≡ true
+-- a marking of the first n requests that is K only where there is a previous request, and U only where there is an upload price
+pub record Proper (p : Rates) (q : Requests) (n : ℕ) (m : ℕ → Mark) : Type 0 where
+  pub kept : (i : ℕ) → i < n → m (suc i) ≡ K → legal p q (suc i) K ≡ true
+  pub offered : (i : ℕ) → i < n → m (suc i) ≡ U → legal p q (suc i) U ≡ true
 
-module _ (q : Requests) (n : ℕ) (m : ℕ → Mark) (proper : Keepable q n m) where
-  -- where no span begins it is S
-  not-begun : (i : ℕ) → i < n → begin q m (suc i) ≡ none → m (suc i) ≡ S
-  unfolding begin keeps Keepable legal some?
+module _ (p : Rates) (q : Requests) (n : ℕ) (m : ℕ → Mark) (proper : Proper p q n m) where
+  -- where no span begins it is not K
+  not-begun : (i : ℕ) → i < n → begin q m (suc i) ≡ none → keeps (m (suc i)) ≡ false
+  unfolding begin keeps legal some?
   not-begun i h e = go (m (suc i)) refl
     where
-      go : (a : Mark) → m (suc i) ≡ a → m (suc i) ≡ S
-      go S d = d
+      go : (a : Mark) → m (suc i) ≡ a → keeps (m (suc i)) ≡ false
+      go S d = rw d
+      go U d = rw d
       go K d =
           let f : previous q (suc i) ≡ none = rw (d, begin) at e in
-          absurd (not-both (proper i h d) (rw f))
+          absurd (not-both (proper .kept i h d) (rw f))
 
   -- a span begins at the previous request
   begun : (i j : ℕ) → begin q m i ≡ some j → previous q i ≡ some j
@@ -190,37 +194,57 @@ module _ (q : Requests) (n : ℕ) (m : ℕ → Mark) (proper : Keepable q n m) w
       go : (a : Mark) → m i ≡ a → previous q i ≡ some j
       go K d = rw (d, begin) at e
       go S d = absurd (none-some (rw (d, begin)) e)
+      go U d = absurd (none-some (rw (d, begin)) e)
 
-  -- the transfer price for each S
-  sent-fees : (x : ℕ) → fees (begin q m) (λ l. x) n ≤ x * sent m n
-  unfolding fees sent keeps unkept
-  sent-fees x =
+  -- the transfer price for each S and the upload price for each U
+  mark-fees : fees (begin q m) (λ l. fee p (m l)) n ≤ p .transfer * sent m n + upload-fee p * loaded m n
+  unfolding fees sent loaded keeps sends loads fee unkept
+  mark-fees =
       omega (
         arith,
-        sum-le n (λ l. unkept (begin q m l) x) (λ l. x * pick (keeps (m l)) 0 1) each,
-        sum-scale x n (λ l. pick (keeps (m l)) 0 1),
+        sum-le n (λ l. unkept (begin q m l) (fee p (m l))) (λ l. by-mark (m l)) each,
+        sum-add n (λ l. p .transfer * pick (sends (m l)) 1 0) (λ l. upload-fee p * pick (loads (m l)) 1 0),
+        sum-scale (p .transfer) n (λ l. pick (sends (m l)) 1 0),
+        sum-scale (upload-fee p) n (λ l. pick (loads (m l)) 1 0),
       )
     where
-      one : (i : ℕ) → i < n → (o : Option ℕ) → begin q m (suc i) ≡ o → unkept o x ≤ x * pick (keeps (m (suc i))) 0 1
-      one i h none e = rw (not-begun i h e) (omega arith)
+      by-mark : Mark → ℕ
+      by-mark a = p .transfer * pick (sends a) 1 0 + upload-fee p * pick (loads a) 1 0
+
+      paid : (a : Mark) → keeps a ≡ false → fee p a ≤ by-mark a
+      paid K e = absurd (not-both refl e)
+      paid S e = omega arith
+      paid U e = omega arith
+
+      one : (i : ℕ) → i < n → (o : Option ℕ) → begin q m (suc i) ≡ o → unkept o (fee p (m (suc i))) ≤ by-mark (m (suc i))
+      one i h none e = paid (m (suc i)) (not-begun i h e)
       one i h (some j) e = omega arith
 
-      each : (l : ℕ) → 1 ≤ l → l ≤ n → unkept (begin q m l) x ≤ x * pick (keeps (m l)) 0 1
+      each : (l : ℕ) → 1 ≤ l → l ≤ n → unkept (begin q m l) (fee p (m l)) ≤ by-mark (m l)
       each zero a b = absurd (omega arith)
       each (suc i) a b = one i b (begin q m (suc i)) refl
 
--- the demand lemma for a proper marking, each S at the transfer price
-pub demand : (p : Prices) (q : Requests) (n : ℕ) → Rising q n → (m : ℕ → Mark) → Keepable q n m
+  -- the table where S is allowed everywhere lets it, with a copy over the gap before an S
+  policy : Policy p q n (λ i. true) (free-price p q) (begin q m) (λ l. fee p (m l)) (λ l. sends (m l))
+  unfolding May keeps sends fee send-price
+  policy = record { kept = λ i j b e. begun (suc i) j e; may = λ i b e. inl refl; pays = λ i c b e. pays i c b (m (suc i)) refl (not-begun i b e) }
+    where
+      pays : (i c : ℕ) → i < n → (a : Mark) → m (suc i) ≡ a → keeps (m (suc i)) ≡ false
+          → free-price p q i c ≤ fee p (m (suc i)) + pick (sends (m (suc i))) (open-gap p q i c) 0
+      pays i c b K d e = absurd (not-both (rw d) e)
+      pays i c b S d e = rw d (free-S p q i c)
+      pays i c b U d e = rw d (omega (arith, free-U p q i c (proper .offered i b d)))
+
+-- the demand lemma for a proper marking, each S at the transfer price and each U at the upload price
+pub demand : (p : Rates) (q : Requests) (n : ℕ) → Rising q n → (m : ℕ → Mark) → Proper p q n m
     → (c : ℕ) (D : ℕ → ℕ) → c ≤ n → ((τ : ℕ) → 1 ≤ τ → spans-over q (begin q m) n τ ≤ D τ)
     → ((l τ : ℕ) → l < c → m (suc l) ≡ S → q .time l < τ → τ ≤ q .time (suc l) → 1 ≤ D τ)
-    → free p q n c ≤ p .transfer * sent m n + p .hold * sum (q .time n) D
-unfolding free May send-price
+    → free p q n c ≤ p .transfer * sent m n + upload-fee p * loaded m n + p .hold * sum (q .time n) D
+unfolding free
 demand p q n r m proper c D h spans gaps =
     omega (
       arith,
-      demand-of p q n r (λ i. true) (send-price p q) (begin q m) (λ l. p .transfer) (λ l. true)
-          (record { kept = λ i j b e. begun q n m proper (suc i) j e; may = λ i b e. inl refl; pays = λ i c b e. omega arith })
-          c D h
-          (record { spans = spans; gaps = λ l τ a b f x y. gaps l τ a (not-begun q n m proper l (omega arith) b) x y }),
-      sent-fees q n m proper (p .transfer),
+      demand-of p q n r (λ i. true) (free-price p q) (begin q m) (λ l. fee p (m l)) (λ l. sends (m l)) (policy p q n m proper) c D h
+          (record { spans = spans; gaps = λ l τ a b f x y. gaps l τ a (sends-S (m (suc l)) f) x y }),
+      mark-fees p q n m proper,
     )

@@ -7,18 +7,16 @@ use mathlib.Core.Path.{_≡_, refl, ap, _∙_}
 use native.Mathlib.Nat.{mul-le-mul-left, mul-sub, min-eq-left, min-eq-right}
 use native.Mathlib.Omega.{arith}
 use Prim.Native.Nat.{ℕ, zero, suc, _+_, _≤_, _<_, min}
-use borrow.Author.Tests.{not-false, eqb-true}
 use Rattle.base.specs.Choice.{le-or-lt, true-or-false}
-use Rattle.prices.specs.declared.Prices.{Prices}
+use Rattle.model.specs.Rates.{Rates, upload-fee}
 use Rattle.model.specs.Requests.{Requests, previous, Rising}
-use Rattle.model.specs.RequestLaws.{previous-some, previous-next, rises-le}
-use Rattle.model.specs.Marking.{S, legal}
-use Rattle.model.specs.Table.{open-gap, table, send-price, free, best}
+use Rattle.model.specs.RequestLaws.{previous-some, rises-le}
+use Rattle.model.specs.Marking.{S, U, keeps, legal}
+use Rattle.model.specs.Table.{open-gap, table, send-price, away-price, free-price, may-leave, free, best}
 use Rattle.model.specs.TableLaws.{
   held,
   span,
   Fair,
-  send-fair,
   May,
   Attained,
   gone,
@@ -31,9 +29,11 @@ use Rattle.model.specs.TableLaws.{
   open-gap-open,
   open-gap-rises,
 }
+use Rattle.model.specs.Leaving.{cheaper-fair, may-by, away-S, away-U, free-away, free-cases}
+use Rattle.model.specs.BestLaws.{forced-next}
 
 -- one table, with prices `to`, against another, with prices `from`
-module _ (p : Prices) (q : Requests) (allow : ℕ → Bool) (to from : ℕ → ℕ → ℕ) where
+module _ (p : Rates) (q : Requests) (allow : ℕ → Bool) (to from : ℕ → ℕ → ℕ) where
   -- request i + 1 is not kept in the other table: the one may follow it, whatever is covered above c, or it is a transfer and could be kept over the gap
   pub data Keeps-up (i c : ℕ) : Type 0 where
     same : May p q allow (suc i) → ((d : ℕ) → c ≤ d → to i d + open-gap p q i c ≤ from i c + open-gap p q i d) → Keeps-up i c
@@ -44,7 +44,7 @@ module _ (p : Prices) (q : Requests) (allow : ℕ → Bool) (to from : ℕ → �
     gets : May p q allow (suc i) → to i c ≤ p .transfer + open-gap p q i c → Comes-near i c
     stays : previous q (suc i) ≡ some i → Comes-near i c
 
-module _ (p : Prices) (q : Requests) (n : ℕ) (r : Rising q n) (allow any : ℕ → Bool) (to from : ℕ → ℕ → ℕ) (fair : Fair p q to)
+module _ (p : Rates) (q : Requests) (n : ℕ) (r : Rising q n) (allow any : ℕ → Bool) (to from : ℕ → ℕ → ℕ) (fair : Fair p q to)
     (follows : (i c : ℕ) → Keeps-up p q allow to from i c) (reached : (i c : ℕ) → Comes-near p q allow to from i c) where
   -- the table that allows less
   abbrev f : ℕ → ℕ → ℕ
@@ -146,43 +146,45 @@ module _ (p : Prices) (q : Requests) (n : ℕ) (r : Rising q n) (allow any : ℕ
   pub no-dearer : f n n ≤ g n n
   no-dearer = omega (arith, near-open n n (omega arith) (omega arith) (near n n (omega arith) (omega arith)))
 
--- where S is not legal, the request before is at the same server
-not-legal : (q : Requests) (i : ℕ) → legal q (suc i) S ≡ false → previous q (suc i) ≡ some i
-unfolding legal
-not-legal q i e = previous-next q i (eqb-true (q .server (suc i)) (q .server i) (not-false _ e))
-
--- the free table is no dearer than one that allows less
-free-least : (p : Prices) (q : Requests) (allow : ℕ → Bool) (away : ℕ → ℕ → ℕ) (i c : ℕ) → table p q (λ i. true) away i c ≤ table p q allow away i c
+-- where S is allowed everywhere a table is no dearer than one that allows less, at no lower a price
+pub free-least : (p : Rates) (q : Requests) (allow : ℕ → Bool) (low high : ℕ → ℕ → ℕ) → ((i c : ℕ) → low i c ≤ high i c)
+    → (i c : ℕ) → table p q (λ i. true) low i c ≤ table p q allow high i c
 unfolding table May
-free-least p q allow away zero c = omega arith
-free-least p q allow away (suc i) c = go (table-cases p q allow away i c) (free-least p q allow away i)
+free-least p q allow low high below zero c = omega arith
+free-least p q allow low high below (suc i) c = go (table-cases p q allow high i c) (free-least p q allow low high below i)
   where
-    go : Attained p q allow away i c → ((c : ℕ) → table p q (λ i. true) away i c ≤ table p q allow away i c)
-        → table p q (λ i. true) away (suc i) c ≤ table p q allow away (suc i) c
-    go (gone may e) ih = omega (arith, table-away p q (λ i. true) away i c (inl refl), ih (min c i))
-    go (kept j e x) ih = omega (arith, table-kept p q (λ i. true) away i c j e, ih (min c j))
+    go : Attained p q allow high i c → ((c : ℕ) → table p q (λ i. true) low i c ≤ table p q allow high i c)
+        → table p q (λ i. true) low (suc i) c ≤ table p q allow high (suc i) c
+    go (gone may e) ih = omega (arith, table-away p q (λ i. true) low i c (inl refl), below i c, ih (min c i))
+    go (kept j e x) ih = omega (arith, table-kept p q (λ i. true) low i c j e, ih (min c j))
 
--- the legal table's value is the free one's
-pub best-free : (p : Prices) (q : Requests) (n : ℕ) → Rising q n → best p q n n ≡ free p q n n
-unfolding best free send-price May
-best-free p q n r =
-    omega (
-      arith,
-      free-least p q allow price n n,
-      no-dearer p q n r allow (λ i. true) price price (send-fair p q) (λ i c. follows i c (true-or-false (allow (suc i))))
-          (λ i c. reached i c (true-or-false (allow (suc i)))),
-    )
-  where
-    allow : ℕ → Bool
-    allow i = legal q i S
+module _ (p : Rates) (q : Requests) where
+  -- the table where S is allowed everywhere is no dearer than that of the legal markings
+  pub free-best : (i c : ℕ) → free p q i c ≤ best p q i c
+  unfolding free best
+  free-best = free-least p q (may-leave p q) (free-price p q) (away-price p q) (free-away p q)
 
-    price : ℕ → ℕ → ℕ
-    price = send-price p q
+  -- and not cheaper for all requests with no gap covered
+  pub best-free : (n : ℕ) → Rising q n → best p q n n ≡ free p q n n
+  unfolding best free away-price free-price send-price May keeps
+  best-free n r =
+      omega (
+        arith,
+        free-best n n,
+        no-dearer p q n r (may-leave p q) (λ i. true) (away-price p q) (free-price p q) (cheaper-fair p q (λ i. legal p q (suc i) S))
+            (λ i c. follows i c (true-or-false (legal p q (suc i) S)) (free-cases p q i c))
+            (λ i c. reached i c (true-or-false (legal p q (suc i) S))),
+      )
+    where
+      follows : (i c : ℕ) → (legal p q (suc i) S ≡ true) ⊎ (legal p q (suc i) S ≡ false)
+          → (free-price p q i c ≡ send-price p q i c) ⊎ ((legal p q (suc i) U ≡ true) × (free-price p q i c ≡ upload-fee p))
+          → Keeps-up p q (may-leave p q) (away-price p q) (free-price p q) i c
+      follows i c (inl l) (inl e) = same (inl (may-by p q (suc i) S refl l)) (λ d h. omega (arith, e, away-S p q i d l))
+      follows i c (inr l) (inl e) = turned (forced-next p q i l) (omega (arith, e))
+      follows i c l (inr e) =
+          same (inl (may-by p q (suc i) U refl (e .0))) (λ d h. omega (arith, e .1, away-U p q i d (e .0), open-gap-rises p q i c d h))
 
-    follows : (i c : ℕ) → (allow (suc i) ≡ true) ⊎ (allow (suc i) ≡ false) → Keeps-up p q allow price price i c
-    follows i c (inl e) = same (inl e) (λ d h. omega arith)
-    follows i c (inr e) = turned (not-legal q i e) (omega arith)
-
-    reached : (i c : ℕ) → (allow (suc i) ≡ true) ⊎ (allow (suc i) ≡ false) → Comes-near p q allow price price i c
-    reached i c (inl e) = gets (inl e) (omega arith)
-    reached i c (inr e) = stays (not-legal q i e)
+      reached : (i c : ℕ) → (legal p q (suc i) S ≡ true) ⊎ (legal p q (suc i) S ≡ false)
+          → Comes-near p q (may-leave p q) (away-price p q) (free-price p q) i c
+      reached i c (inl l) = gets (inl (may-by p q (suc i) S refl l)) (omega (arith, away-S p q i c l))
+      reached i c (inr l) = stays (forced-next p q i l)

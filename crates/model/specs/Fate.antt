@@ -1,5 +1,5 @@
--- What the rows of a feasible schedule do: some hold lies over each second up to the last request, and each request's server either held
--- since its previous request or got a transfer after it.
+-- What the rows of a feasible schedule do: some hold lies over each second up to a request with no upload between them, and each request's
+-- server either held since its previous request or got a move after it.
 use mathlib.Core.Bool.{true}
 use mathlib.Core.List.{List, List·Memᴰ}
 use mathlib.Core.Logic.{_⊎_, inl, inr}
@@ -8,10 +8,11 @@ use mathlib.Core.Path.{_≡_, refl, sym}
 use native.Mathlib.Omega.{arith}
 use Prim.Native.Nat.{ℕ, zero, suc, _≤_, _<_}
 use Rattle.base.specs.Choice.{le-or-lt}
+use Rattle.model.specs.Rates.{Rates}
 use Rattle.model.specs.Requests.{Requests, previous, Rising}
 use Rattle.model.specs.RequestLaws.{previous-some, previous-none, rises}
 use Rattle.model.specs.Once.{awaits, awaits-own, since-none, since-some}
-use Rattle.model.specs.Schedule.{Row, hold, move, transfer, Stands, at-home, held, arrived, Feasible}
+use Rattle.model.specs.Schedule.{Row, hold, move, Move, transfer, upload, Stands, at-home, held, uploaded, arrived, Feasible}
 
 -- a row holds at server x over second τ
 pub record Over (rows : List Row) (x τ : ℕ) : Type 0 where
@@ -21,19 +22,29 @@ pub record Over (rows : List Row) (x τ : ℕ) : Type 0 where
   pub low : start < τ
   pub high : τ ≤ end
 
--- a copy at server x at second σ, from second b on: held throughout, brought by a transfer, or there from the start
+-- the server where a move puts a copy
+unfoldable pub target : Move → ℕ
+target (transfer y x τ) = x
+target (upload x τ) = x
+
+-- the second at which it does
+unfoldable pub second : Move → ℕ
+second (transfer y x τ) = τ
+second (upload x τ) = τ
+
+-- a copy at server x at second σ, from second b on: held throughout, brought by a move, or there from the start
 data Trace (home : ℕ) (rows : List Row) (x b σ : ℕ) : Type 0 where
   throughout : ((τ : ℕ) → b ≤ τ → τ ≤ σ → Over rows x τ) → Trace home rows x b σ
-  brought : (y τ : ℕ) → List·Memᴰ (move (transfer y x τ)) rows → b ≤ τ → τ ≤ σ → Trace home rows x b σ
+  brought : (v : Move) → List·Memᴰ (move v) rows → target v ≡ x → b ≤ second v → second v ≤ σ → Trace home rows x b σ
   began : b ≡ 0 → x ≡ home → Trace home rows x b σ
 
--- request i was kept since its previous request, or got a transfer while it awaited one; nothing of those that are not among the first n
+-- request i was kept since its previous request, or got a move while it awaited one; nothing of those that are not among the first n
 pub data Fate (q : Requests) (n : ℕ) (rows : List Row) (i : ℕ) : Type 0 where
   kept : (j : ℕ) → previous q i ≡ some j → ((τ : ℕ) → q .time j < τ → τ ≤ q .time i → Over rows (q .server i) τ) → Fate q n rows i
-  got : (y τ : ℕ) → List·Memᴰ (move (transfer y (q .server i) τ)) rows → awaits q (q .server i) τ i ≡ true → Fate q n rows i
+  got : (v : Move) → List·Memᴰ (move v) rows → awaits q (target v) (second v) i ≡ true → Fate q n rows i
   other : (1 ≤ i → i ≤ n → ⊥) → Fate q n rows i
 
-module _ (q : Requests) (n : ℕ) (rows : List Row) (F : Feasible q n rows) where
+module _ (p : Rates) (q : Requests) (n : ℕ) (rows : List Row) (F : Feasible p q n rows) where
   -- where the copy is at second 0
   abbrev home : ℕ
   home = q .server 0
@@ -49,39 +60,48 @@ module _ (q : Requests) (n : ℕ) (rows : List Row) (F : Feasible q n rows) wher
 
       go : Trace home rows x b a → Trace home rows x b σ
       go (throughout all) = throughout (λ τ k l. both-parts all τ k l (le-or-lt τ a))
-      go (brought y τ r k l) = brought y τ r k (omega arith)
+      go (brought v r z k l) = brought v r z k (omega arith)
       go (began k l) = began k l
 
   -- each copy that stands, traced back
   trace : (f x b σ : ℕ) → σ < f → b ≤ σ → Stands home rows x σ → Trace home rows x b σ
+  unfolding target second
   trace zero x b σ h k d = absurd (omega arith)
   trace (suc f) x b σ h k at-home = began (omega arith) refl
-  trace (suc f) x b σ h k (arrived {y = y} m d) = brought y σ m k (omega arith)
+  trace (suc f) x b σ h k (arrived {y = y} m d) = brought (transfer y x σ) m refl k (omega arith)
+  trace (suc f) x b σ h k (uploaded m) = brought (upload x σ) m refl k (omega arith)
   trace (suc f) x b σ h k (held {a = a} {b = e} m u w) =
       trace-hold x a e b σ m u w (λ z. trace f x b a (omega arith) z (F .begins x a e m)) (le-or-lt b a)
 
-  -- where a copy stands after second 0, a row holds, there or where the transfers of that second come from
-  root : {x σ : ℕ} → Stands home rows x σ → 1 ≤ σ → (y : ℕ) × Over rows y σ
-  root at-home h = absurd (omega arith)
-  root (held {x} {a} {b} m u w) h = (x, record { start = a; end = b; row = m; low = u; high = w })
-  root (arrived m d) h = root d h
+  -- no upload comes from second τ on up to second σ
+  abbrev pub Quiet : ℕ → ℕ → Type 0
+  Quiet τ σ = (x ω : ℕ) → List·Memᴰ (move (upload x ω)) rows → τ ≤ ω → ω ≤ σ → ⊥
 
-  -- and over each second before
-  somewhere : (f x σ τ : ℕ) → σ < f → Stands home rows x σ → 1 ≤ τ → τ ≤ σ → (y : ℕ) × Over rows y τ
-  somewhere zero x σ τ h d u w = absurd (omega arith)
-  somewhere (suc f) x σ τ h d u w = go (λ y a. somewhere f y a τ) (root d (omega arith))
+  -- where a copy stands after second 0, and not by an upload, a row holds, there or where the transfers of that second come from
+  root : {x σ : ℕ} → Stands home rows x σ → 1 ≤ σ → Quiet σ σ → (y : ℕ) × Over rows y σ
+  root at-home h quiet = absurd (omega arith)
+  root (held {x} {a} {b} m u w) h quiet = (x, record { start = a; end = b; row = m; low = u; high = w })
+  root (uploaded {x} {τ} m) h quiet = absurd (quiet x τ m (omega arith) (omega arith))
+  root (arrived m d) h quiet = root d h quiet
+
+  -- and over each second before, as long as there was no upload
+  somewhere : (f x σ τ : ℕ) → σ < f → Stands home rows x σ → 1 ≤ τ → τ ≤ σ → Quiet τ σ → (y : ℕ) × Over rows y τ
+  somewhere zero x σ τ h d u w quiet = absurd (omega arith)
+  somewhere (suc f) x σ τ h d u w quiet = go (λ y a. somewhere f y a τ) (root d (omega arith) (λ y ω m k l. quiet y ω m (omega arith) l))
     where
-      go2 : ((y a : ℕ) → a < f → Stands home rows y a → 1 ≤ τ → τ ≤ a → (y : ℕ) × Over rows y τ)
+      go2 : ((y a : ℕ) → a < f → Stands home rows y a → 1 ≤ τ → τ ≤ a → Quiet τ a → (y : ℕ) × Over rows y τ)
           → (y : ℕ) (o : Over rows y σ) → (τ ≤ o .start) ⊎ (o .start < τ) → (y : ℕ) × Over rows y τ
-      go2 back y o (inl z) = back y (o .start) (omega arith) (F .begins y (o .start) (o .end) (o .row)) u z
+      go2 back y o (inl z) =
+          back y (o .start) (omega arith) (F .begins y (o .start) (o .end) (o .row)) u z (λ x ω m k l. quiet x ω m k (omega (arith, o .low)))
       go2 back y o (inr z) = (y, record { start = o .start; end = o .end; row = o .row; low = z; high = omega arith })
 
-      go : ((y a : ℕ) → a < f → Stands home rows y a → 1 ≤ τ → τ ≤ a → (y : ℕ) × Over rows y τ) → (y : ℕ) × Over rows y σ → (y : ℕ) × Over rows y τ
+      go : ((y a : ℕ) → a < f → Stands home rows y a → 1 ≤ τ → τ ≤ a → Quiet τ a → (y : ℕ) × Over rows y τ)
+          → (y : ℕ) × Over rows y σ → (y : ℕ) × Over rows y τ
       go back (y, o) = go2 back y o (le-or-lt τ (o .start))
 
-  -- some row holds over each second up to the last request
-  pub some-hold : (τ : ℕ) → 1 ≤ n → 1 ≤ τ → τ ≤ q .time n → (y : ℕ) × Over rows y τ
-  some-hold τ h u w = somewhere (suc (q .time n)) (q .server n) (q .time n) τ (omega arith) (F .serves n h (omega arith)) u w
+  -- some row holds over each second up to a request with no upload from there on
+  pub some-hold : (i τ : ℕ) → 1 ≤ i → i ≤ n → 1 ≤ τ → τ ≤ q .time i → Quiet τ (q .time i) → (y : ℕ) × Over rows y τ
+  some-hold i τ h k u w quiet = somewhere (suc (q .time i)) (q .server i) (q .time i) τ (omega arith) (F .serves i h k) u w quiet
 
   -- what becomes of one of the first n requests
   served : Rising q n → (i : ℕ) → 1 ≤ i → i ≤ n → (o : Option ℕ) → previous q i ≡ o → Fate q n rows i
@@ -89,7 +109,7 @@ module _ (q : Requests) (n : ℕ) (rows : List Row) (F : Feasible q n rows) wher
     where
       go : Trace home rows (q .server i) 0 (q .time i) → Fate q n rows i
       go (throughout all) = absurd (let o = all 0 (omega arith) (omega arith) in omega (arith, o .low))
-      go (brought y τ m u w) = got y τ m (awaits-own q τ i (since-none q i τ e) w)
+      go (brought v m z u w) = got v m (rw z (awaits-own q (second v) i (since-none q i (second v) e) w))
       go (began u w) = absurd (previous-none q i e 0 h (sym w))
   served r i h k (some j) e =
       go (trace (suc (q .time i)) (q .server i) (suc (q .time j)) (q .time i) (omega arith)
@@ -97,7 +117,7 @@ module _ (q : Requests) (n : ℕ) (rows : List Row) (F : Feasible q n rows) wher
     where
       go : Trace home rows (q .server i) (suc (q .time j)) (q .time i) → Fate q n rows i
       go (throughout all) = kept j e all
-      go (brought y τ m u w) = got y τ m (awaits-own q τ i (since-some q i j τ e u) w)
+      go (brought v m z u w) = got v m (rw z (awaits-own q (second v) i (since-some q i j (second v) e u) w))
       go (began u w) = absurd (omega arith)
 
   -- what becomes of each

@@ -1,11 +1,18 @@
--- The numbers of rows, read back as rows.
-use mathlib.Core.List.{List, [], _∷_}
-use mathlib.Core.Path.{_≡_, refl, ap, _∙_}
+-- The numbers of rows, read back as rows, and rows as numbers again.
+use mathlib.Core.Bool.{true}
+use mathlib.Core.List.{List, [], _∷_, _++_, List·Memᴰ, List·Memᴰ·head, List·Memᴰ·tail}
+use mathlib.Core.Path.{_≡_, refl, sym, ap, _∙_}
 use native.Mathlib.Omega.{arith}
-use Prim.Native.Nat.{ℕ, zero, suc, _+_, _*_, _/_, _≤_}
+use Prim.Native.Nat.{ℕ, zero, suc, _+_, _*_, _/_, _%_, _≤_, _<_}
+use lib.Dec.{ltb, eqb}
 use lib.ListN.{getD, length}
-use Rattle.model.specs.Schedule.{Row, hold, move, transfer}
+use borrow.Author.Tests.{lt-ltb, eqb-true}
+use Rattle.base.specs.Choice.{both}
+use Rattle.base.specs.ChoiceLaws.{both-true}
+use Rattle.model.specs.Rates.{Rates, offers}
+use Rattle.model.specs.Schedule.{Row, hold, move, transfer, upload}
 use Rattle.model.specs.RowForm.{numbers, flat, row-of, row-at, rows-upto, rows-of}
+use Rattle.model.specs.Checking.{kind-fits, kind-of}
 
 -- four numbers further on, and one row
 getD-shift : (a b c d : ℕ) (ns : List ℕ) (i j : ℕ) → i ≡ suc (suc (suc (suc j))) → getD (a ∷ b ∷ c ∷ d ∷ ns) i 0 ≡ getD ns j 0
@@ -40,6 +47,8 @@ rows-of-flat [] = refl
 rows-of-flat (hold x a b ∷ rows) = rows-of-shift 0 x a b (flat rows) ∙ ap (λ (rs : List Row). hold x a b ∷ rs) (rows-of-flat rows)
 rows-of-flat (move (transfer y x τ) ∷ rows) =
     rows-of-shift 1 y x τ (flat rows) ∙ ap (λ (rs : List Row). move (transfer y x τ) ∷ rs) (rows-of-flat rows)
+rows-of-flat (move (upload x τ) ∷ rows) =
+    rows-of-shift 2 x τ 0 (flat rows) ∙ ap (λ (rs : List Row). move (upload x τ) ∷ rs) (rows-of-flat rows)
 
 -- there are four for each row
 pub flat-length : (rows : List Row) → length (flat rows) ≡ 4 * length rows
@@ -47,12 +56,70 @@ unfolding flat numbers
 flat-length [] = refl
 flat-length (hold x a b ∷ rows) = omega (arith, flat-length rows)
 flat-length (move (transfer y x τ) ∷ rows) = omega (arith, flat-length rows)
+flat-length (move (upload x τ) ∷ rows) = omega (arith, flat-length rows)
 
--- the kinds are 0 or 1
-pub flat-kinds : (rows : List Row) (i : ℕ) → getD (flat rows) (4 * i) 0 ≤ 1
-unfolding flat numbers
-flat-kinds [] i = omega arith
-flat-kinds (hold x a b ∷ rows) zero = omega arith
-flat-kinds (hold x a b ∷ rows) (suc i) = rw (getD-shift 0 x a b (flat rows) (4 * suc i) (4 * i) (omega arith)) (flat-kinds rows i)
-flat-kinds (move (transfer y x τ) ∷ rows) zero = omega arith
-flat-kinds (move (transfer y x τ) ∷ rows) (suc i) = rw (getD-shift 1 y x τ (flat rows) (4 * suc i) (4 * i) (omega arith)) (flat-kinds rows i)
+-- ---- kinds that fit
+
+module _ (p : Rates) where
+  -- one row further on
+  kind-shift : (a b c d : ℕ) (ns : List ℕ) (i : ℕ) → kind-of p (a ∷ b ∷ c ∷ d ∷ ns) (suc i) ≡ kind-of p ns i
+  kind-shift a b c d ns i =
+      rw (
+        getD-shift a b c d ns (4 * suc i) (4 * i) (omega arith),
+        getD-shift a b c d ns (4 * suc i + 3) (4 * i + 3) (omega arith),
+      )
+
+  -- what a kind above 1 that fits says
+  kind-upload : (kind last : ℕ) → 1 < kind → kind-fits p kind last ≡ true → (kind ≡ 2) × (last ≡ 0) × (offers p ≡ true)
+  unfolding kind-fits
+  kind-upload kind last h e =
+      let (a, f) = both-true (eqb kind 2) (both (eqb last 0) (offers p)) (rw (lt-ltb 1 kind h) at e) in
+      let (b, c) = both-true (eqb last 0) (offers p) f in
+      (eqb-true kind 2 a, eqb-true last 0 b, c)
+
+  -- a row whose kind fits has its four numbers
+  numbers-of : (kind a b c : ℕ) → kind-fits p kind c ≡ true → numbers (row-of kind a b c) ≡ kind ∷ a ∷ b ∷ c ∷ []
+  unfolding numbers row-of
+  numbers-of zero a b c e = refl
+  numbers-of (suc zero) a b c e = refl
+  numbers-of (suc (suc k)) a b c e =
+      let (u, v, w) = kind-upload (suc (suc k)) c (omega arith) e in
+      rw (u, v)
+
+  -- and is an upload only where an upload price is given
+  pub row-offers : (ns : List ℕ) (i x τ : ℕ) → move (upload x τ) ≡ row-at ns i → kind-of p ns i ≡ true → offers p ≡ true
+  unfolding row-at row-of
+  row-offers ns i x τ e f = go (getD ns (4 * i) 0) refl
+    where
+      go : (kind : ℕ) → getD ns (4 * i) 0 ≡ kind → offers p ≡ true
+      go zero z = absurd (let g = rw z at e in let w : _≡_ {A = ℕ} 0 1 = cc in omega arith)
+      go (suc zero) z = absurd (let g = rw z at e in let w : _≡_ {A = ℕ} 0 1 = cc in omega arith)
+      go (suc (suc k)) z = kind-upload (suc (suc k)) (getD ns (4 * i + 3) 0) (omega arith) (rw z at f) .2
+
+  -- the kinds in the numbers of rows fit, where an upload price is given if there is an upload
+  pub flat-kinds : (rows : List Row) → ((x τ : ℕ) → List·Memᴰ (move (upload x τ)) rows → offers p ≡ true)
+      → (i : ℕ) → i < length rows → kind-of p (flat rows) i ≡ true
+  unfolding flat numbers kind-fits
+  flat-kinds [] offered i h = absurd (omega arith)
+  flat-kinds (hold x a b ∷ rows) offered zero h = refl
+  flat-kinds (move (transfer y x τ) ∷ rows) offered zero h = refl
+  flat-kinds (move (upload x τ) ∷ rows) offered zero h = offered x τ (List·Memᴰ·head refl)
+  flat-kinds (hold x a b ∷ rows) offered (suc i) h =
+      kind-shift 0 x a b (flat rows) i ∙ flat-kinds rows (λ z σ m. offered z σ (List·Memᴰ·tail m)) i (omega arith)
+  flat-kinds (move (transfer y x τ) ∷ rows) offered (suc i) h =
+      kind-shift 1 y x τ (flat rows) i ∙ flat-kinds rows (λ z σ m. offered z σ (List·Memᴰ·tail m)) i (omega arith)
+  flat-kinds (move (upload x τ) ∷ rows) offered (suc i) h =
+      kind-shift 2 x τ 0 (flat rows) i ∙ flat-kinds rows (λ z σ m. offered z σ (List·Memᴰ·tail m)) i (omega arith)
+
+  -- numbers, four for each row, whose kinds fit are those of their rows
+  pub flat-rows-of : (ns : List ℕ) → length ns % 4 ≡ 0 → ((i : ℕ) → i < length ns / 4 → kind-of p ns i ≡ true) → flat (rows-of ns) ≡ ns
+  unfolding flat rows-of rows-upto
+  flat-rows-of [] h k = refl
+  flat-rows-of (a ∷ []) h k = absurd (omega arith)
+  flat-rows-of (a ∷ b ∷ []) h k = absurd (omega arith)
+  flat-rows-of (a ∷ b ∷ c ∷ []) h k = absurd (omega arith)
+  flat-rows-of (a ∷ b ∷ c ∷ d ∷ ns) h k =
+      ap flat (rows-of-shift a b c d ns)
+      ∙ (ap (λ (xs : List ℕ). xs ++ flat (rows-of ns)) (numbers-of a b c d (k 0 (omega arith)))
+      ∙ ap (λ (xs : List ℕ). a ∷ b ∷ c ∷ d ∷ xs)
+      (flat-rows-of ns (omega arith) (λ i l. sym (kind-shift a b c d ns i) ∙ k (suc i) (omega arith))))

@@ -1,5 +1,5 @@
--- How many servers hold over a gap: one for each K span over it, or one where there is none.
-use mathlib.Core.Bool.{Bool, true, false}
+-- How many servers hold over a gap: one for each K span over it, or one where there is none, unless the gap is before a U.
+use mathlib.Core.Bool.{Bool, true, false, not}
 use mathlib.Core.Path.{_≡_, refl, sym, _∙_}
 use native.Mathlib.Omega.{arith}
 use Prim.Native.Nat.{ℕ, pred, _+_, _≤_, _<_}
@@ -11,7 +11,7 @@ use Rattle.model.specs.SumLaws.{sum-same, sum-zero, sum-swap}
 use Rattle.model.specs.CountLaws.{sum-server, one-server}
 use Rattle.model.specs.Requests.{Requests, Within}
 use Rattle.model.specs.RequestLaws.{previous-some}
-use Rattle.model.specs.Marking.{Mark, spans, any, covered, holds}
+use Rattle.model.specs.Marking.{Mark, loads, spans, any, covered, holds}
 use Rattle.base.specs.ChoiceLaws.{both-true}
 use Rattle.model.specs.TestLaws.{any-none, any-counts}
 use Rattle.model.specs.HolderLaws.{spans-true}
@@ -29,9 +29,9 @@ module _ (q : Requests) (m : ℕ → Mark) (n count : ℕ) (within : Within coun
 
   -- the number of servers that hold over gap k
   pub holder-count : (k : ℕ) → 1 ≤ k → k ≤ n
-      → sum count (λ y. pick (holds q m n k (pred y)) 1 0) ≡ sum n (λ i. pick (spans q m i k) 1 0) + pick (covered q m n k) 0 1
+      → sum count (λ y. pick (holds q m n k (pred y)) 1 0) ≡ sum n (λ i. pick (spans q m i k) 1 0) + pick (covered q m n k) 0 (pick (loads (m k)) 0 1)
   unfolding holds covered Within
-  holder-count k a b = go (covered q m n k) refl
+  holder-count k a b = go (covered q m n k) (loads (m k)) refl
     where
       one : (i y : ℕ) → ℕ
       one i y = pick (both (eqb (q .server i) y) (spans q m i k)) 1 0
@@ -41,10 +41,13 @@ module _ (q : Requests) (m : ℕ → Mark) (n count : ℕ) (within : Within coun
           sum-server count (q .server i) (one i) (within i d) (λ y e. rw (ne-eqb (q .server i) y (λ z. e (sym z))))
           ∙ rw (eq-eqb (q .server i) (q .server i) refl)
 
-      go : (c : Bool) → covered q m n k ≡ c
-          → sum count (λ y. pick (pick c (any n (λ i. both (eqb (q .server i) (pred y)) (spans q m i k))) (eqb (pred y) (q .server (pred k)))) 1 0)
-          ≡ sum n (λ i. pick (spans q m i k) 1 0) + pick c 0 1
-      go true c =
+      no-span : covered q m n k ≡ false → sum n (λ i. pick (spans q m i k) 1 0) ≡ 0
+      no-span c = sum-zero n (λ i. pick (spans q m i k) 1 0) (λ i d e. rw (any-none n (λ l. spans q m l k) c i d e))
+
+      go : (c u : Bool) → covered q m n k ≡ c
+          → sum count (λ y. pick (pick c (any n (λ i. both (eqb (q .server i) (pred y)) (spans q m i k))) (both (not u) (eqb (pred y) (q .server (pred k))))) 1 0)
+          ≡ sum n (λ i. pick (spans q m i k) 1 0) + pick c 0 (pick u 0 1)
+      go true u c =
           omega (
             arith,
             sum-same count (λ y. pick (any n (λ i. both (eqb (q .server i) (pred y)) (spans q m i k))) 1 0) (λ y. sum n (λ i. one i (pred y)))
@@ -52,9 +55,5 @@ module _ (q : Requests) (m : ℕ → Mark) (n count : ℕ) (within : Within coun
             sum-swap count n (λ y i. one i (pred y)),
             sum-same n (λ i. sum count (λ y. one i (pred y))) (λ i. pick (spans q m i k) 1 0) by-server,
           )
-      go false c =
-          omega (
-            arith,
-            one-server count (q .server (pred k)) (within (pred k) (omega arith)),
-            sum-zero n (λ i. pick (spans q m i k) 1 0) (λ i d e. rw (any-none n (λ l. spans q m l k) c i d e)),
-          )
+      go false true c = omega (arith, no-span c, sum-zero count (λ y. 0) (λ y d e. refl))
+      go false false c = omega (arith, no-span c, one-server count (q .server (pred k)) (within (pred k) (omega arith)))

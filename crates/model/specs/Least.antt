@@ -4,15 +4,15 @@ use mathlib.Core.Bool.{true}
 use mathlib.Core.List.{List}
 use mathlib.Core.Path.{_≡_}
 use Prim.Native.Nat.{ℕ, _≤_}
-use Rattle.prices.specs.declared.Prices.{Prices}
+use Rattle.model.specs.Rates.{Rates}
 use Rattle.model.specs.Requests.{Requests}
 use Rattle.model.specs.Schedule.{Row, Feasible, cost-of}
 use Rattle.model.specs.RowForm.{well-formed}
 
 -- the least cost of the first n requests, with servers below the count
-pub record Least (p : Prices) (count : ℕ) (q : Requests) (n least : ℕ) : Type 0 where
+pub record Least (p : Rates) (count : ℕ) (q : Requests) (n least : ℕ) : Type 0 where
   pub schedule : List Row
   pub formed : well-formed count n (q .time n) schedule ≡ true
-  pub feasible : Feasible q n schedule
+  pub feasible : Feasible p q n schedule
   pub costs : cost-of p schedule ≡ least
-  pub none-less : (rows : List Row) → Feasible q n rows → least ≤ cost-of p rows
+  pub none-less : (rows : List Row) → Feasible p q n rows → least ≤ cost-of p rows

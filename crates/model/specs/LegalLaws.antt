@@ -7,19 +7,20 @@ use Prim.Native.Nat.{ℕ, pred}
 use lib.Dec.{eqb}
 use borrow.Author.Tests.{eq-eqb, not-true}
 use Rattle.base.specs.Choice.{not-both}
+use Rattle.model.specs.Rates.{Rates, some?}
 use Rattle.model.specs.Requests.{Requests, previous}
-use Rattle.model.specs.Marking.{K, S, legal, some?}
+use Rattle.model.specs.Marking.{K, S, legal}
 
 -- a K has a previous request
-pub kept-from : (q : Requests) (i : ℕ) → legal q i K ≡ true → (j : ℕ) × (previous q i ≡ some j)
+pub kept-from : (p : Rates) (q : Requests) (i : ℕ) → legal p q i K ≡ true → (j : ℕ) × (previous q i ≡ some j)
 unfolding legal some?
-kept-from q i e = go (previous q i) refl
+kept-from p q i e = go (previous q i) refl
   where
     go : (o : Option ℕ) → previous q i ≡ o → (j : ℕ) × (previous q i ≡ some j)
-    go none p = absurd (false≢true (rw p at e))
-    go (some j) p = (j, p)
+    go none z = absurd (false≢true (rw z at e))
+    go (some j) z = (j, z)
 
 -- an S is at another server than the request before
-pub sent-apart : (q : Requests) (i : ℕ) → legal q i S ≡ true → q .server i ≢ q .server (pred i)
+pub sent-apart : (p : Rates) (q : Requests) (i : ℕ) → legal p q i S ≡ true → q .server i ≢ q .server (pred i)
 unfolding legal
-sent-apart q i e p = not-both (eq-eqb (q .server i) (q .server (pred i)) p) (not-true (eqb (q .server i) (q .server (pred i))) e)
+sent-apart p q i e z = not-both (eq-eqb (q .server i) (q .server (pred i)) z) (not-true (eqb (q .server i) (q .server (pred i))) e)

@@ -1,6 +1,7 @@
--- Crate model: 01's 'Schedules' and 'The plan', and 02's quote.
+-- Crate model: 01's 'Schedules' and 'The plan', with 02's uploads, and 02's quote.
 -- What a reader believes: the definitions.
 pub mod Sums
+pub mod Rates
 pub mod Requests
 pub mod Schedule
 pub mod Standing
@@ -26,10 +27,13 @@ pub mod FormLaws
 pub mod HolderCount
 pub mod HolderLaws
 pub mod LeastLaws
+pub mod Leaving
 pub mod LegalLaws
 pub mod LogRequestLaws
 pub mod LowerBound
+pub mod MarkLaws
 pub mod MarkingRows
+pub mod MoveRows
 pub mod Once
 pub mod PartCost
 pub mod PlanLaws

@@ -1,4 +1,4 @@
--- Markings of requests, the servers that hold over each gap, and a marking's cost and rows: 01's 'The plan'. Assumes nothing.
+-- Markings of requests, the servers that hold over each gap, and a marking's cost and rows: 01's 'The plan', with the U of 02's Req 11. Assumes nothing.
 use mathlib.Core.Bool.{Bool, true, false, not}
 use mathlib.Core.List.{List, [], _∷_, _++_}
 use mathlib.Core.Option.{Option, none, some}
@@ -7,39 +7,53 @@ use Prim.Native.Nat.{ℕ, zero, suc, pred, _+_, _-_, _*_, _≤_, _<_}
 use lib.Dec.{leb, ltb, eqb}
 use Rattle.base.specs.Choice.{pick, both, either}
 use Rattle.base.specs.Nearest.{nearest}
-use Rattle.prices.specs.declared.Prices.{Prices}
+use Rattle.model.specs.Rates.{Rates, some?, or-zero, offers, upload-fee}
 use Rattle.model.specs.Sums.{sum}
 use Rattle.model.specs.Requests.{Requests, previous}
-use Rattle.model.specs.Schedule.{Row, hold, move, transfer}
+use Rattle.model.specs.Schedule.{Row, hold, move, transfer, upload}
 
--- K: kept since the previous request at that server. S: sent there by a transfer.
+-- K: kept since the previous request at that server. S: sent there by a transfer. U: brought there by an upload.
 pub data Mark : Type 0 where
   K : Mark
   S : Mark
+  U : Mark
 
 -- is it K
 unfoldable pub keeps : Mark → Bool
 keeps K = true
 keeps S = false
+keeps U = false
 
--- is there one
-unfoldable pub some? : {A : Type 0} → Option A → Bool
-some? none = false
-some? (some a) = true
+-- is it S
+unfoldable pub sends : Mark → Bool
+sends K = false
+sends S = true
+sends U = false
 
--- K needs a previous request at the server, so a server's first request, home excepted, is S;
--- S needs another server than that of the request before, home being before request 1
-unfoldable pub legal : Requests → ℕ → Mark → Bool
-legal q i K = some? (previous q i)
-legal q i S = not (eqb (q .server i) (q .server (pred i)))
+-- is it U
+unfoldable pub loads : Mark → Bool
+loads K = false
+loads S = false
+loads U = true
+
+-- K needs a previous request at the server, so a server's first request, home excepted, is S or U;
+-- S needs another server than that of the request before, home being before request 1, so there it is K or U; U needs an upload price
+unfoldable pub legal : Rates → Requests → ℕ → Mark → Bool
+legal p q i K = some? (previous q i)
+legal p q i S = not (eqb (q .server i) (q .server (pred i)))
+legal p q i U = offers p
 
 -- the marks of the first n requests are legal
-abbrev pub Valid : Requests → (ℕ → Mark) → ℕ → Type 0
-Valid q m n = (i : ℕ) → 1 ≤ i → i ≤ n → legal q i (m i) ≡ true
+abbrev pub Valid : Rates → Requests → (ℕ → Mark) → ℕ → Type 0
+Valid p q m n = (i : ℕ) → 1 ≤ i → i ≤ n → legal p q i (m i) ≡ true
 
--- the requests among the first n that are not K
+-- the requests among the first n that are S
 unfoldable pub sent : (ℕ → Mark) → ℕ → ℕ
-sent m n = sum n (λ i. pick (keeps (m i)) 0 1)
+sent m n = sum n (λ i. pick (sends (m i)) 1 0)
+
+-- and those that are U
+unfoldable pub loaded : (ℕ → Mark) → ℕ → ℕ
+loaded m n = sum n (λ i. pick (loads (m i)) 1 0)
 
 -- the gap before request i: from the request before it
 unfoldable pub gap : Requests → ℕ → ℕ
@@ -67,20 +81,30 @@ any (suc n) f = either (f (suc n)) (any n f)
 unfoldable pub covered : Requests → (ℕ → Mark) → ℕ → ℕ → Bool
 covered q m n k = any n (λ i. spans q m i k)
 
--- server y holds over gap k: by a K span there; over a gap that no K span covers, the server of the earlier request
+-- server y holds over gap k: by a K span there; over a gap that no K span covers, the server of the earlier request, but none before a U
 unfoldable pub holds : Requests → (ℕ → Mark) → ℕ → ℕ → ℕ → Bool
-holds q m n k y = pick (covered q m n k) (any n (λ i. both (eqb (q .server i) y) (spans q m i k))) (eqb y (q .server (pred k)))
+holds q m n k y = pick (covered q m n k) (any n (λ i. both (eqb (q .server i) y) (spans q m i k))) (both (not (loads (m k))) (eqb y (q .server (pred k))))
 
--- what request i costs by its mark: the hold price over its span, or a transfer
-unfoldable pub own : Prices → Requests → Option ℕ → ℕ → ℕ
-own p q none i = p .transfer
-own p q (some j) i = p .hold * (q .time i - q .time j)
+-- what brings a copy to a request that is not kept: an upload for U, else a transfer
+unfoldable pub fee : Rates → Mark → ℕ
+fee p K = p .transfer
+fee p S = p .transfer
+fee p U = upload-fee p
 
--- the marks of the first n requests, and the gaps that no K span covers
-unfoldable pub cost : Prices → Requests → (ℕ → Mark) → ℕ → ℕ
+-- what request i costs by its mark: the hold price over its span, or what brings a copy there
+unfoldable pub own : Rates → Requests → Option ℕ → Mark → ℕ → ℕ
+own p q none a i = fee p a
+own p q (some j) a i = p .hold * (q .time i - q .time j)
+
+-- the seconds that are held over gap k where no K span covers it: all, but none before a U
+unfoldable pub asked : Requests → (ℕ → Mark) → ℕ → ℕ
+asked q m k = pick (loads (m k)) 0 (gap q k)
+
+-- the marks of the first n requests, and what is held over the gaps that no K span covers
+unfoldable pub cost : Rates → Requests → (ℕ → Mark) → ℕ → ℕ
 cost p q m n =
-    sum n (λ i. own p q (begin q m i) i)
-    + sum n (λ k. pick (covered q m n k) 0 (p .hold * gap q k))
+    sum n (λ i. own p q (begin q m i) (m i) i)
+    + sum n (λ k. pick (covered q m n k) 0 (p .hold * asked q m k))
 
 -- a run begins with gap k: a hold over gap k and none over the one before
 unfoldable pub begins-run : (ℕ → Bool) → ℕ → Bool
@@ -108,7 +132,12 @@ unfoldable pub transfers : Requests → (ℕ → Mark) → (ℕ → ℕ) → ℕ
 transfers q m source zero = []
 transfers q m source (suc i) =
     transfers q m source i
-    ++ pick (keeps (m (suc i))) [] (move (transfer (source (suc i)) (q .server (suc i)) (q .time (suc i))) ∷ [])
+    ++ pick (sends (m (suc i))) (move (transfer (source (suc i)) (q .server (suc i)) (q .time (suc i))) ∷ []) []
+
+-- the uploads of requests 1 to i that are marked U
+unfoldable pub uploads : Requests → (ℕ → Mark) → ℕ → List Row
+uploads q m zero = []
+uploads q m (suc i) = uploads q m i ++ pick (loads (m (suc i))) (move (upload (q .server (suc i)) (q .time (suc i))) ∷ []) []
 
 -- where a transfer to request i comes from: of the servers that hold over the gap before it the nearest to its own, the lower of two equally near
 unfoldable pub source : Requests → ℕ → (ℕ → Mark) → ℕ → ℕ → ℕ
@@ -120,7 +149,7 @@ Good count q m n from = (i : ℕ) → 1 ≤ i → i ≤ n → m i ≡ S → (fro
 
 -- the rows of a marking of n requests, with a source for each transfer
 unfoldable pub rows-from : Requests → ℕ → (ℕ → Mark) → ℕ → (ℕ → ℕ) → List Row
-rows-from q count m n from = all-holds q m n count ++ transfers q m from n
+rows-from q count m n from = all-holds q m n count ++ (transfers q m from n ++ uploads q m n)
 
 -- the rows of a marking: S is sent from the nearest holder over the gap before it
 unfoldable pub rows : Requests → ℕ → (ℕ → Mark) → ℕ → List Row

@@ -2,37 +2,38 @@
 use mathlib.Core.Bool.{Bool, true, false}
 use mathlib.Core.Logic.{_⊎_, inl, inr}
 use mathlib.Core.Option.{Option, none, some}
-use mathlib.Core.Path.{_≡_, refl, sym, _∙_}
+use mathlib.Core.Path.{_≡_, refl, sym, ap, _∙_}
 use native.Mathlib.Omega.{arith}
 use Prim.Native.Nat.{ℕ, zero, suc, _+_, _*_, _≤_, _<_, min}
 use lib.Dec.{leb}
 use borrow.Author.Tests.{le-leb, lt-leb, lt-ltb, le-ltb}
 use Rattle.base.specs.Choice.{pick, le-or-lt}
-use Rattle.prices.specs.declared.Prices.{Prices}
+use Rattle.model.specs.Rates.{Rates}
 use Rattle.model.specs.Sums.{sum}
 use Rattle.model.specs.SumLaws.{sum-same}
 use Rattle.model.specs.Requests.{Requests, previous}
 use Rattle.model.specs.RequestLaws.{previous-some, none-some}
-use Rattle.model.specs.Marking.{Mark, K, S, keeps, gap, begin, after, spans, any, covered, own, cost, Valid}
+use Rattle.model.specs.Marking.{Mark, K, S, U, keeps, loads, gap, begin, after, spans, any, covered, fee, own, asked, cost, Valid}
 use Rattle.model.specs.LegalLaws.{kept-from}
-use Rattle.model.specs.Table.{open-gap, table, send-price, best}
+use Rattle.model.specs.Table.{open-gap, table, best}
 use Rattle.model.specs.TableLaws.{span}
-use Rattle.model.specs.BestLaws.{best-S, best-K}
+use Rattle.model.specs.Leaving.{leave-price}
+use Rattle.model.specs.BestLaws.{best-leave, best-K}
 
-module _ (p : Prices) (q : Requests) where
+module _ (p : Rates) (q : Requests) where
   -- what gap k costs if no span covers it, with the gaps above c free
   unfoldable pub left-open : (ℕ → Mark) → ℕ → ℕ → ℕ → ℕ
-  left-open m i c k = pick (covered q m i k) 0 (pick (leb k c) (p .hold * gap q k) 0)
+  left-open m i c k = pick (covered q m i k) 0 (pick (leb k c) (p .hold * asked q m k) 0)
 
   -- the cost of the first i marks when the gaps above c are covered
   unfoldable pub part : (ℕ → Mark) → ℕ → ℕ → ℕ
-  part m i c = sum i (λ i. own p q (begin q m i) i) + sum i (left-open m i c)
+  part m i c = sum i (λ i. own p q (begin q m i) (m i) i) + sum i (left-open m i c)
 
   -- with all marks, and no gap covered by later ones, it is the cost
   pub part-cost : (m : ℕ → Mark) (n : ℕ) → part m n n ≡ cost p q m n
   unfolding part cost left-open
   part-cost m n =
-      omega (arith, sum-same n (left-open m n n) (λ k. pick (covered q m n k) 0 (p .hold * gap q k)) (λ k a b. rw (le-leb k n b)))
+      omega (arith, sum-same n (left-open m n n) (λ k. pick (covered q m n k) 0 (p .hold * asked q m k)) (λ k a b. rw (le-leb k n b)))
 
   -- a span lies over no gap after its request
   covered-above : (m : ℕ → Mark) (i k : ℕ) → i < k → covered q m i k ≡ false
@@ -72,11 +73,24 @@ module _ (p : Prices) (q : Requests) where
       go (inr a) = lt-leb k c a ∙ sym (lt-leb k (min c j) (omega arith))
 
   -- a step at a request that is not kept
-  pub part-away : (m : ℕ → Mark) (i c : ℕ) → begin q m (suc i) ≡ none → part m (suc i) c ≡ send-price p q i c + part m i (min c i)
-  unfolding part sum own send-price open-gap left-open
+  pub part-away : (m : ℕ → Mark) (i c : ℕ) → begin q m (suc i) ≡ none → part m (suc i) c ≡ leave-price p q i c (m (suc i)) + part m i (min c i)
+  unfolding part sum own left-open asked loads open-gap
   part-away m i c e =
       rw (e, covered-away m i (suc i) e, covered-above m i (suc i) (omega arith))
-      (omega (arith, sum-same i (left-open m (suc i) c) (left-open m i (min c i)) (λ k a b. rw (covered-away m i k e, leb-min k c i b))))
+      (omega (
+        arith,
+        left (m (suc i)) refl,
+        sum-same i (left-open m (suc i) c) (left-open m i (min c i)) (λ k a b. rw (covered-away m i k e, leb-min k c i b)),
+      ))
+    where
+      left : (a : Mark) → m (suc i) ≡ a → pick (leb (suc i) c) (p .hold * asked q m (suc i)) 0 ≡ pick (loads (m (suc i))) 0 (open-gap p q i c)
+      left K z = rw z
+      left S z = rw z
+      left U z = go (leb (suc i) c) refl
+        where
+          go : (b : Bool) → leb (suc i) c ≡ b → pick b (p .hold * asked q m (suc i)) 0 ≡ pick (loads (m (suc i))) 0 (open-gap p q i c)
+          go true w = rw z (omega arith)
+          go false w = rw z
 
   -- a step at a request that is kept from j
   pub part-kept : (m : ℕ → Mark) (i c j : ℕ) → begin q m (suc i) ≡ some j → j ≤ i → part m (suc i) c ≡ span p q j (suc i) + part m i (min c j)
@@ -98,11 +112,12 @@ module _ (p : Prices) (q : Requests) where
       go : (a : Mark) → m i ≡ a → j < i
       go K x = previous-some q i j (rw x at e) .below
       go S x = absurd (none-some refl (rw x at e))
+      go U x = absurd (none-some refl (rw x at e))
 
-  -- a step at S
-  pub part-S : (m : ℕ → Mark) (i c : ℕ) → m (suc i) ≡ S → part m (suc i) c ≡ send-price p q i c + part m i (min c i)
-  unfolding begin keeps
-  part-S m i c e = part-away m i c (rw e)
+  -- a step at a mark that is not K
+  pub part-leave : (m : ℕ → Mark) (i c : ℕ) (a : Mark) → m (suc i) ≡ a → keeps a ≡ false → part m (suc i) c ≡ leave-price p q i c a + part m i (min c i)
+  unfolding begin
+  part-leave m i c a e d = rw (← e) (part-away m i c (rw (e, d)))
 
   -- a step at K
   pub part-K : (m : ℕ → Mark) (i c j : ℕ) → m (suc i) ≡ K → previous q (suc i) ≡ some j → part m (suc i) c ≡ span p q j (suc i) + part m i (min c j)
@@ -119,23 +134,35 @@ module _ (p : Prices) (q : Requests) where
       same = rw (h (suc i) (omega arith) (omega arith))
 
       go : (o : Option ℕ) → begin q m′ (suc i) ≡ o → ((c : ℕ) → part m i c ≡ part m′ i c) → part m (suc i) c ≡ part m′ (suc i) c
-      go none e ih = omega (arith, part-away m i c (same ∙ e), part-away m′ i c e, ih (min c i))
+      go none e ih =
+          omega (
+            arith,
+            part-away m i c (same ∙ e),
+            part-away m′ i c e,
+            ap (leave-price p q i c) (h (suc i) (omega arith) (omega arith)),
+            ih (min c i),
+          )
       go (some j) e ih =
           let b : j < suc i = begin-below m′ (suc i) j e in
           omega (arith, part-kept m i c j (same ∙ e) (omega arith), part-kept m′ i c j e (omega arith), ih (min c j))
 
   -- the table is at most the cost of any legal marking
-  pub best-part : (m : ℕ → Mark) (i c : ℕ) → Valid q m i → best p q i c ≤ part m i c
-  unfolding best table
+  pub best-part : (m : ℕ → Mark) (i c : ℕ) → Valid p q m i → best p q i c ≤ part m i c
+  unfolding best table keeps
   best-part m zero c ok = omega arith
   best-part m (suc i) c ok = go (m (suc i)) refl (λ c. best-part m i c (λ l a b. ok l a (omega arith)))
     where
+      away : (a : Mark) → m (suc i) ≡ a → keeps a ≡ false → ((c : ℕ) → best p q i c ≤ part m i c) → best p q (suc i) c ≤ part m (suc i) c
+      away a e d ih =
+          omega (arith, best-leave p q i c a d (rw e at (ok (suc i) (omega arith) (omega arith))), part-leave m i c a e d, ih (min c i))
+
       go : (a : Mark) → m (suc i) ≡ a → ((c : ℕ) → best p q i c ≤ part m i c) → best p q (suc i) c ≤ part m (suc i) c
       go K e ih =
-          let j = kept-from q (suc i) (rw e at (ok (suc i) (omega arith) (omega arith))) in
+          let j = kept-from p q (suc i) (rw e at (ok (suc i) (omega arith) (omega arith))) in
           omega (arith, best-K p q i c (j .0) (j .1), part-K m i c (j .0) e (j .1), ih (min c (j .0)))
-      go S e ih = omega (arith, best-S p q i c (rw e at (ok (suc i) (omega arith) (omega arith))), part-S m i c e, ih (min c i))
+      go S e ih = away S e refl ih
+      go U e ih = away U e refl ih
 
   -- so no legal marking costs less than the table says
-  pub best-cost : (m : ℕ → Mark) (n : ℕ) → Valid q m n → best p q n n ≤ cost p q m n
+  pub best-cost : (m : ℕ → Mark) (n : ℕ) → Valid p q m n → best p q n n ≤ cost p q m n
   best-cost m n ok = rw (← (part-cost m n)) (best-part m n n ok)

@@ -9,11 +9,11 @@ use Prim.Native.Nat.{ℕ, zero, suc, _≤_, _<_}
 use lib.Dec.{leb, ltb, eqb}
 use borrow.Author.Tests.{ltb-true, leb-true, lt-ltb}
 use Rattle.base.specs.Choice.{both, le-or-lt}
-use Rattle.model.specs.Schedule.{Row, hold, move, transfer}
+use Rattle.model.specs.Schedule.{Row, hold, move, transfer, upload}
 use Rattle.model.specs.RowForm.{row-at, rows-upto, fits, follows, ordered, all-fit, well-formed}
 use Rattle.base.specs.ChoiceLaws.{both-true, both-of, both-end, both-assoc}
 
--- what a hold that fits says, and a transfer
+-- what a hold that fits says, a transfer, and an upload
 pub fits-hold : (count last x a b : ℕ) → fits count last (hold x a b) ≡ true → (x < count) × (a < b) × (b ≤ last)
 unfolding fits
 fits-hold count last x a b e =
@@ -27,6 +27,10 @@ fits-move count last y x τ e =
     let (f, g) = both-true (ltb y count) (both (ltb x count) (both (not (eqb y x)) (leb τ last))) e in
     let (h, k) = both-true (ltb x count) (both (not (eqb y x)) (leb τ last)) g in
     (ltb-true y count f, ltb-true x count h, leb-true τ last (both-true (not (eqb y x)) (leb τ last) k .1))
+
+pub fits-upload : (count last x τ : ℕ) → fits count last (move (upload x τ)) ≡ true → (x < count) × (τ ≤ last)
+unfolding fits
+fits-upload count last x τ e = let (f, g) = both-true (ltb x count) (leb τ last) e in (ltb-true x count f, leb-true τ last g)
 
 -- all rows fit if and only if each member does
 pub all-fit-member : (count last : ℕ) (rows : List Row) → all-fit count last rows ≡ true

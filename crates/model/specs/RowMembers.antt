@@ -1,14 +1,15 @@
--- The rows of a marking, row by row: the holds over runs of gaps, and the transfers.
-use mathlib.Core.List.{[], _∷_, List·Memᴰ, List·Memᴰ·head, Memᴰ·append-left, Memᴰ·append-right, List·Memᴰ·append-cases, List·Memᴰ·eq-of-singleton, List·Memᴰ·not-nil}
+-- The rows of a marking, row by row: the holds over runs of gaps, the transfers and the uploads.
+use mathlib.Core.List.{_++_, List·Memᴰ, Memᴰ·append-left, Memᴰ·append-right, List·Memᴰ·append-cases, List·Memᴰ·not-nil}
 use mathlib.Core.Logic.{_⊎_, inl, inr}
-use mathlib.Core.Path.{_≡_, refl, ap}
+use mathlib.Core.Path.{_≡_}
 use native.Mathlib.Omega.{arith}
 use Prim.Native.Nat.{ℕ, zero, suc, _≤_, _<_}
-use Rattle.base.specs.Choice.{pick, le-or-lt}
+use Rattle.base.specs.Choice.{le-or-lt}
 use Rattle.model.specs.Requests.{Requests}
-use Rattle.model.specs.Schedule.{Row, hold, move, transfer}
-use Rattle.model.specs.Marking.{Mark, K, S, keeps, holds, hold-rows, all-holds, transfers, rows-from}
+use Rattle.model.specs.Schedule.{Row, hold}
+use Rattle.model.specs.Marking.{Mark, S, U, sends, loads, holds, hold-rows, all-holds, transfers, uploads, rows-from}
 use Rattle.model.specs.RunLaws.{Run, hold-rows-run}
+use Rattle.model.specs.MoveRows.{Moved, moved-row, moved-in, sending, loading, transfers-moved, uploads-moved}
 
 module _ (q : Requests) (m : ℕ → Mark) (n : ℕ) where
   -- a row is the hold of a server below c over one of its runs
@@ -36,7 +37,7 @@ module _ (q : Requests) (m : ℕ → Mark) (n : ℕ) where
           record { server = c; start = h .0; end = h .1; below = omega arith; run = h .3; is = h .4 }
 
   -- the holds of a server below c are among them
-  pub all-holds-in : {r : Row} (c y : ℕ) → y < c → List·Memᴰ r (hold-rows q (λ k. holds q m n k y) n y n) → List·Memᴰ r (all-holds q m n c)
+  all-holds-in : {r : Row} (c y : ℕ) → y < c → List·Memᴰ r (hold-rows q (λ k. holds q m n k y) n y n) → List·Memᴰ r (all-holds q m n c)
   unfolding all-holds
   all-holds-in zero y h x = absurd (omega arith)
   all-holds-in {r} (suc c) y h x = go (le-or-lt c y) (λ p. all-holds-in c y p x)
@@ -46,53 +47,40 @@ module _ (q : Requests) (m : ℕ → Mark) (n : ℕ) where
       go (inr p) ih = Memᴰ·append-left (hold-rows q (λ k. holds q m n k c) n c n) (ih p)
 
   module _ (from : ℕ → ℕ) where
-    -- a row is the transfer of one of the first i requests, marked S
-    pub record Sent (i : ℕ) (r : Row) : Type 0 where
-      pub request : ℕ
-      pub first : 1 ≤ request
-      pub upto : request ≤ i
-      pub sent : m request ≡ S
-      pub is : r ≡ move (transfer (from request) (q .server request) (q .time request))
+    -- what a row of a marking is: a hold over a run, a transfer to a request marked S, or an upload to one marked U
+    pub data Made (count : ℕ) (r : Row) : Type 0 where
+      as-hold : Held count r → Made count r
+      as-transfer : Moved sends (sending q m from) m n r → Made count r
+      as-upload : Moved loads (loading q m) m n r → Made count r
 
-    -- the transfer to request i
-    abbrev sending : ℕ → Row
-    sending i = move (transfer (from i) (q .server i) (q .time i))
-
-    -- each row of the transfers is one
-    pub transfers-row : {r : Row} (i : ℕ) → List·Memᴰ r (transfers q m from i) → Sent i r
-    unfolding transfers keeps
-    transfers-row zero x = absurd (List·Memᴰ·not-nil x)
-    transfers-row {r} (suc i) x = go (transfers-row i) (List·Memᴰ·append-cases (transfers q m from i) x)
-      where
-        new : (a : Mark) → m (suc i) ≡ a → List·Memᴰ r (pick (keeps a) [] (sending (suc i) ∷ [])) → Sent (suc i) r
-        new K e z = absurd (List·Memᴰ·not-nil z)
-        new S e z = record { request = suc i; first = omega arith; upto = omega arith; sent = e; is = List·Memᴰ·eq-of-singleton z }
-
-        go : (List·Memᴰ r (transfers q m from i) → Sent i r)
-            → List·Memᴰ r (transfers q m from i) ⊎ List·Memᴰ r (pick (keeps (m (suc i))) [] (sending (suc i) ∷ [])) → Sent (suc i) r
-        go ih (inl z) =
-            let s = ih z in
-            record { request = s .request; first = s .first; upto = omega (arith, s .upto); sent = s .sent; is = s .is }
-        go ih (inr z) = new (m (suc i)) refl z
-
-    -- each request marked S has its transfer
-    pub transfers-in : (i l : ℕ) → 1 ≤ l → l ≤ i → m l ≡ S → List·Memᴰ (sending l) (transfers q m from i)
-    unfolding transfers keeps
-    transfers-in zero l a b e = absurd (omega arith)
-    transfers-in (suc i) l a b e = go (le-or-lt l i) (λ p. transfers-in i l a p e)
-      where
-        go : (l ≤ i) ⊎ (i < l) → (l ≤ i → List·Memᴰ (sending l) (transfers q m from i)) → List·Memᴰ (sending l) (transfers q m from (suc i))
-        go (inl p) ih = Memᴰ·append-left (pick (keeps (m (suc i))) [] (sending (suc i) ∷ [])) (ih p)
-        go (inr p) ih =
-            let s : l ≡ suc i = omega arith in
-            let t : m (suc i) ≡ S = rw s at e in
-            Memᴰ·append-right (transfers q m from i) (rw t (List·Memᴰ·head (ap sending s)))
-
-    -- each row of a marking is a hold over a run or a transfer to a request marked S
-    pub rows-row : {r : Row} (count : ℕ) → List·Memᴰ r (rows-from q count m n from) → Held count r ⊎ Sent n r
+    -- each is one of them
+    pub rows-row : {r : Row} (count : ℕ) → List·Memᴰ r (rows-from q count m n from) → Made count r
     unfolding rows-from
     rows-row {r} count x = go (List·Memᴰ·append-cases (all-holds q m n count) x)
       where
-        go : List·Memᴰ r (all-holds q m n count) ⊎ List·Memᴰ r (transfers q m from n) → Held count r ⊎ Sent n r
-        go (inl z) = inl (all-holds-row count z)
-        go (inr z) = inr (transfers-row n z)
+        moves : List·Memᴰ r (transfers q m from n) ⊎ List·Memᴰ r (uploads q m n) → Made count r
+        moves (inl z) = as-transfer (moved-row sends (sending q m from) m n (rw (transfers-moved q m from n) at z))
+        moves (inr z) = as-upload (moved-row loads (loading q m) m n (rw (uploads-moved q m n) at z))
+
+        go : List·Memᴰ r (all-holds q m n count) ⊎ List·Memᴰ r (transfers q m from n ++ uploads q m n) → Made count r
+        go (inl z) = as-hold (all-holds-row count z)
+        go (inr z) = moves (List·Memᴰ·append-cases (transfers q m from n) z)
+
+    -- the holds of a server below the count are among them
+    pub hold-in : {r : Row} (count y : ℕ) → y < count → List·Memᴰ r (hold-rows q (λ k. holds q m n k y) n y n) → List·Memᴰ r (rows-from q count m n from)
+    unfolding rows-from
+    hold-in count y h x = Memᴰ·append-left (transfers q m from n ++ uploads q m n) (all-holds-in count y h x)
+
+    -- and the transfer to each request marked S
+    pub transfer-in : (count l : ℕ) → 1 ≤ l → l ≤ n → m l ≡ S → List·Memᴰ (sending q m from l) (rows-from q count m n from)
+    unfolding rows-from sends
+    transfer-in count l a b e =
+        let x : List·Memᴰ (sending q m from l) (transfers q m from n) = rw (transfers-moved q m from n) (moved-in sends (sending q m from) m n l a b (rw e)) in
+        Memᴰ·append-right (all-holds q m n count) (Memᴰ·append-left (uploads q m n) x)
+
+    -- and the upload to each marked U
+    pub upload-in : (count l : ℕ) → 1 ≤ l → l ≤ n → m l ≡ U → List·Memᴰ (loading q m l) (rows-from q count m n from)
+    unfolding rows-from loads
+    upload-in count l a b e =
+        let x : List·Memᴰ (loading q m l) (uploads q m n) = rw (uploads-moved q m n) (moved-in loads (loading q m) m n l a b (rw e)) in
+        Memᴰ·append-right (all-holds q m n count) (Memᴰ·append-right (transfers q m from n) x)

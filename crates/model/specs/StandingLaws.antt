@@ -11,7 +11,7 @@ use Rattle.base.specs.Choice.{pick, both, same-or-not, true-or-false, not-both}
 use Rattle.base.specs.Sets.{has, put, members}
 use Rattle.base.specs.SetLaws.{has-none, has-put, has-put-other, put-there, members-put, members-le}
 use Rattle.base.specs.ChoiceLaws.{both-true}
-use Rattle.model.specs.Schedule.{Row, hold, move, transfer, Stands, at-home, held, arrived}
+use Rattle.model.specs.Schedule.{Row, hold, move, transfer, upload, Stands, at-home, held, uploaded, arrived}
 use Rattle.model.specs.Standing.{reach, arrive, through, reached, rounds, standing, stands}
 
 -- ---- a set to which a server is added where a test holds
@@ -81,15 +81,17 @@ through-adds f g (s ∷ rows) r (List·Memᴰ·head e) w k h = through-grows f g
 through-adds f g (s ∷ rows) r (List·Memᴰ·tail m) w k h =
     through-adds f g rows r m (f w s) k (λ v up. h v (λ i p. up i (g w s i p)))
 
--- the steps of holds and of transfers do
+-- the steps of holds and uploads, and of transfers, do
 reach-grows : (τ : ℕ) → Grows (reach τ)
 unfolding Grows reach
 reach-grows τ w (hold x a b) k e = more (both (ltb a τ) (leb τ b)) w x k e
-reach-grows τ w (move v) k e = e
+reach-grows τ w (move (transfer y x σ)) k e = e
+reach-grows τ w (move (upload x σ)) k e = more (eqb σ τ) w x k e
 
 arrive-grows : (τ : ℕ) → Grows (arrive τ)
 unfolding Grows arrive
 arrive-grows τ w (hold x a b) k e = e
+arrive-grows τ w (move (upload x σ)) k e = e
 arrive-grows τ w (move (transfer y x σ)) k e = more (both (eqb σ τ) (has w y)) w x k e
 
 -- and all rounds
@@ -116,11 +118,17 @@ module _ (home : ℕ) (rows : List Row) (τ : ℕ) where
           let (f, g) = both-true (ltb a τ) (leb τ b) t in
           rw p (held m (ltb-true a τ f) (leb-true τ b g))
       go (inr g) = h k g
-  reach-backed w (move v) m h k e = h k e
+  reach-backed w (move (transfer y x σ)) m h k e = h k e
+  reach-backed w (move (upload x σ)) m h k e = go (whence (eqb σ τ) w x k e)
+    where
+      go : ((eqb σ τ ≡ true) × (k ≡ x)) ⊎ (has w k ≡ true) → Stands home rows k τ
+      go (inl (t, p)) = rw p (uploaded (rw (eqb-true σ τ t) at m))
+      go (inr g) = h k g
 
   arrive-backed : (w : ℕ) (r : Row) → List·Memᴰ r rows → Backed home rows τ w → Backed home rows τ (arrive τ w r)
   unfolding Backed arrive
   arrive-backed w (hold x a b) m h k e = h k e
+  arrive-backed w (move (upload x σ)) m h k e = h k e
   arrive-backed w (move (transfer y x σ)) m h k e = go (whence (both (eqb σ τ) (has w y)) w x k e)
     where
       go : ((both (eqb σ τ) (has w y) ≡ true) × (k ≡ x)) ⊎ (has w k ≡ true) → Stands home rows k τ
@@ -172,6 +180,7 @@ module _ (rows : List Row) (τ : ℕ) where
   closed-arrive : (w : ℕ) (r : Row) → List·Memᴰ r rows → Closed rows τ w → arrive τ w r ≡ w
   unfolding Closed arrive
   closed-arrive w (hold x a b) m c = refl
+  closed-arrive w (move (upload x σ)) m c = refl
   closed-arrive w (move (transfer y x σ)) m c = go (true-or-false (both (eqb σ τ) (has w y)))
     where
       go : (both (eqb σ τ) (has w y) ≡ true) ⊎ (both (eqb σ τ) (has w y) ≡ false) → pick (both (eqb σ τ) (has w y)) (put w x) w ≡ w
@@ -193,6 +202,7 @@ module _ (rows : List Row) (τ : ℕ) where
     arrive-rises : (w : ℕ) (r : Row) → List·Memᴰ r rows → Rises count w (arrive τ w r)
     unfolding arrive
     arrive-rises w (hold x a b) m = inl refl
+    arrive-rises w (move (upload x σ)) m = inl refl
     arrive-rises w (move (transfer y x σ)) m = rises count (both (eqb σ τ) (has w y)) w x (targets y x σ m)
 
     pass-rises : (w : ℕ) → Rises count w (pass w)
@@ -227,6 +237,10 @@ stands-complete count home rows targets (held {x} {a} {b} {τ} m p q) =
     rounds-grow count τ rows (through (reach τ) start rows) x
     (through-adds (reach τ) (reach-grows τ) rows (hold x a b) m start x
     (λ v up. rw (lt-ltb a τ p, le-leb τ b q) (has-put v x)))
+stands-complete count home rows targets (uploaded {x} {τ} m) =
+    let start = pick (eqb τ 0) (put 0 home) 0 in
+    rounds-grow count τ rows (through (reach τ) start rows) x
+    (through-adds (reach τ) (reach-grows τ) rows (move (upload x τ)) m start x (λ v up. rw (eq-eqb τ τ refl) (has-put v x)))
 stands-complete count home rows targets (arrived {x} {y} {τ} m s) =
     rounds-close rows τ count targets count (through (reach τ) (pick (eqb τ 0) (put 0 home) 0) rows) (omega arith) y x m
     (stands-complete count home rows targets s)

@@ -8,12 +8,12 @@ use native.Mathlib.Omega.{arith}
 use Prim.Native.Nat.{ℕ, zero, suc, _+_, _-_, _*_, _≤_, _<_, min}
 use borrow.Author.Tests.{le-leb, lt-leb}
 use Rattle.base.specs.Choice.{le-or-lt}
-use Rattle.prices.specs.declared.Prices.{Prices}
+use Rattle.model.specs.Rates.{Rates}
 use Rattle.model.specs.Requests.{Requests, previous}
 use Rattle.model.specs.Marking.{gap}
 use Rattle.model.specs.Table.{open-gap, table, send-price}
 
-module _ (p : Prices) (q : Requests) where
+module _ (p : Rates) (q : Requests) where
   -- what it costs to hold from second 0 to request i
   abbrev pub held : ℕ → ℕ
   held i = p .hold * q .time i

@@ -5,7 +5,7 @@ use native.Mathlib.Omega.{arith}
 use Prim.Native.Nat.{ℕ, zero, suc, _≤_}
 use lib.ListN.{getD, length, length-append, List·getD-append}
 use lib.Seq.{getD-at}
-use Rattle.prices.specs.declared.Prices.{Prices}
+use Rattle.model.specs.Rates.{Rates}
 use Rattle.model.specs.Requests.{Requests}
 use Rattle.model.specs.Table.{best}
 use Rattle.model.specs.TableRows.{next-D, next-C, Tabled, tabled-zero, tabled-suc}
@@ -20,14 +20,14 @@ pub record Lists : Type 0 where
   pub keeps : List ℕ
 
 -- C(0) to C(n), and D(0) to D(n)
-unfoldable pub lists : Prices → Requests → ℕ → Lists
+unfoldable pub lists : Rates → Requests → ℕ → Lists
 lists p q zero = record { costs = 0 ∷ []; keeps = 0 ∷ [] }
 lists p q (suc n) =
     let l = lists p q n in
     let d = next-D p q (at (l .costs)) (at (l .keeps)) n in
     record { costs = l .costs ++ (next-C p q n d (at (l .costs) n) ∷ []); keeps = l .keeps ++ (d ∷ []) }
 
-module _ (p : Prices) (q : Requests) where
+module _ (p : Rates) (q : Requests) where
   -- one number for each of 0 to n
   pub lists-length : (n : ℕ) → (length (lists p q n .costs) ≡ suc n) × (length (lists p q n .keeps) ≡ suc n)
   unfolding lists

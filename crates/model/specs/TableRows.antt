@@ -5,29 +5,29 @@ use mathlib.Core.Option.{Option, none, some}
 use mathlib.Core.Path.{_≡_, refl, sym, ap, _∙_}
 use native.Mathlib.Nat.{min-eq-left, min-eq-right}
 use native.Mathlib.Omega.{arith}
-use Prim.Native.Nat.{ℕ, zero, suc, _+_, _*_, _≤_, _<_, min}
+use Prim.Native.Nat.{ℕ, zero, suc, _+_, _≤_, _<_, min}
 use lib.Dec.{ltb}
 use borrow.Author.Tests.{lt-ltb, le-ltb}
 use Rattle.base.specs.Choice.{pick, le-or-lt}
-use Rattle.prices.specs.declared.Prices.{Prices}
+use Rattle.model.specs.Rates.{Rates}
 use Rattle.model.specs.Requests.{Requests, previous}
 use Rattle.model.specs.RequestLaws.{previous-some}
-use Rattle.model.specs.Marking.{S, legal, gap}
-use Rattle.model.specs.Table.{table, send-price, best}
-use Rattle.model.specs.TableLaws.{span, open-gap-shut, open-gap-open}
-use Rattle.model.specs.BestLaws.{with-S, with-K, best-none, best-forced, best-both}
+use Rattle.model.specs.Table.{table, shut-price, open-price, may-leave, best}
+use Rattle.model.specs.TableLaws.{span}
+use Rattle.model.specs.Leaving.{away-shut, away-open}
+use Rattle.model.specs.BestLaws.{with-away, with-K, best-none, best-forced, best-both}
 
--- the least of what S and K cost, over what is legal at request i with a previous request
-abbrev pub least-legal : Requests → ℕ → ℕ → ℕ → ℕ
-least-legal q i sent kept = pick (legal q i S) (min sent kept) kept
+-- the least of what not keeping and K cost, over what is legal at request i with a previous request
+abbrev pub least-legal : Rates → Requests → ℕ → ℕ → ℕ → ℕ
+least-legal p q i gone kept = pick (may-leave p q i) (min gone kept) kept
 
-module _ (p : Prices) (q : Requests) where
+module _ (p : Rates) (q : Requests) where
   -- from H(k, c) to H(k + 1, c), for c ≤ k: d is D(k + 1)
   unfoldable pub row-step : ℕ → ℕ → ℕ → ℕ → ℕ
   row-step c k d v =
       elim (previous q (suc k)) [
-        | none ↦ p .transfer + v
-        | some j ↦ least-legal q (suc k) (p .transfer + v) (pick (ltb j c) d (span p q j (suc k) + v))
+        | none ↦ shut-price p q k + v
+        | some j ↦ least-legal p q (suc k) (shut-price p q k + v) (pick (ltb j c) d (span p q j (suc k) + v))
       ]
 
   -- H(k, c) for c ≤ k: begun at C(c), and stepped to k
@@ -43,8 +43,8 @@ module _ (p : Prices) (q : Requests) where
   unfoldable pub next-C : ℕ → ℕ → ℕ → ℕ
   next-C i d v =
       elim (previous q (suc i)) [
-        | none ↦ p .transfer + p .hold * gap q (suc i) + v
-        | some j ↦ least-legal q (suc i) (p .transfer + p .hold * gap q (suc i) + v) d
+        | none ↦ open-price p q i + v
+        | some j ↦ least-legal p q (suc i) (open-price p q i + v) d
       ]
 
   -- D(i + 1) by the table, where there is a previous request
@@ -58,19 +58,19 @@ module _ (p : Prices) (q : Requests) where
 
   -- a step of a row is the table's
   pub row-step-is : (c k d v : ℕ) → c ≤ k → v ≡ best p q k c → ((j : ℕ) → previous q (suc k) ≡ some j → d ≡ kept-best k j) → row-step c k d v ≡ best p q (suc k) c
-  unfolding row-step send-price
-  row-step-is c k d v h e f = go (previous q (suc k)) (legal q (suc k) S) refl refl
+  unfolding row-step
+  row-step-is c k d v h e f = go (previous q (suc k)) (may-leave p q (suc k)) refl refl
     where
       via : (j : ℕ) → previous q (suc k) ≡ some j → (c ≤ j) ⊎ (j < c) → pick (ltb j c) d (span p q j (suc k) + v) ≡ with-K p q k c j
       via j z (inl a) = rw (le-ltb j c a, min-eq-left a, e)
       via j z (inr a) = rw (lt-ltb j c a, min-eq-right {n = j} {m = c} (omega arith), f j z)
 
-      sent : p .transfer + v ≡ with-S p q k c
-      sent = omega (arith, e, open-gap-shut p q k c h, ap (best p q k) (min-eq-left h))
+      gone : shut-price p q k + v ≡ with-away p q k c
+      gone = omega (arith, e, away-shut p q k c h, ap (best p q k) (min-eq-left h))
 
-      go : (o : Option ℕ) (b : Bool) → previous q (suc k) ≡ o → legal q (suc k) S ≡ b → row-step c k d v ≡ best p q (suc k) c
-      go none b z l = rw (z, row-step, sent) (sym (best-none p q k c z))
-      go (some j) true z l = rw (z, row-step, l, sent, via j z (le-or-lt c j)) (sym (best-both p q k c j z l))
+      go : (o : Option ℕ) (b : Bool) → previous q (suc k) ≡ o → may-leave p q (suc k) ≡ b → row-step c k d v ≡ best p q (suc k) c
+      go none b z l = rw (z, row-step, gone) (sym (best-none p q k c z))
+      go (some j) true z l = rw (z, row-step, l, gone, via j z (le-or-lt c j)) (sym (best-both p q k c j z l))
       go (some j) false z l = rw (z, row-step, l, via j z (le-or-lt c j)) (sym (best-forced p q k c j z l))
 
   -- a row begins at C(c)
@@ -115,18 +115,18 @@ module _ (p : Prices) (q : Requests) where
 
   -- and the next C
   pub next-C-is : (i d v : ℕ) → v ≡ best p q i i → ((j : ℕ) → previous q (suc i) ≡ some j → d ≡ kept-best i j) → next-C i d v ≡ best p q (suc i) (suc i)
-  unfolding next-C send-price gap
-  next-C-is i d v e f = go (previous q (suc i)) (legal q (suc i) S) refl refl
+  unfolding next-C
+  next-C-is i d v e f = go (previous q (suc i)) (may-leave p q (suc i)) refl refl
     where
-      sent : p .transfer + p .hold * gap q (suc i) + v ≡ with-S p q i (suc i)
-      sent = omega (arith, e, open-gap-open p q i (suc i) (omega arith), ap (best p q i) (min-eq-right {n = i} {m = suc i} (omega arith)))
+      gone : open-price p q i + v ≡ with-away p q i (suc i)
+      gone = omega (arith, e, away-open p q i (suc i) (omega arith), ap (best p q i) (min-eq-right {n = i} {m = suc i} (omega arith)))
 
       via : (j : ℕ) → previous q (suc i) ≡ some j → d ≡ with-K p q i (suc i) j
       via j z = rw (min-eq-right {n = j} {m = suc i} (omega (arith, previous-some q (suc i) j z .below))) (f j z)
 
-      go : (o : Option ℕ) (b : Bool) → previous q (suc i) ≡ o → legal q (suc i) S ≡ b → next-C i d v ≡ best p q (suc i) (suc i)
-      go none b z l = rw (z, next-C, sent) (sym (best-none p q i (suc i) z))
-      go (some j) true z l = rw (z, next-C, l, sent, via j z) (sym (best-both p q i (suc i) j z l))
+      go : (o : Option ℕ) (b : Bool) → previous q (suc i) ≡ o → may-leave p q (suc i) ≡ b → next-C i d v ≡ best p q (suc i) (suc i)
+      go none b z l = rw (z, next-C, gone) (sym (best-none p q i (suc i) z))
+      go (some j) true z l = rw (z, next-C, l, gone, via j z) (sym (best-both p q i (suc i) j z l))
       go (some j) false z l = rw (z, next-C, l, via j z) (sym (best-forced p q i (suc i) j z l))
 
   -- only C and D up to n count

@@ -1,4 +1,4 @@
--- The plan's marks from the last request to the first, by a walk back through D: K wherever K attains the least cost.
+-- The plan's marks from the last request to the first, by a walk back through D: K wherever K attains the least cost, else S wherever S does.
 use mathlib.Core.Bool.{Bool, true, false, not}
 use mathlib.Core.List.{List, [], _∷_, _++_}
 use mathlib.Core.Logic.{_⊎_, inl, inr, _≢_}
@@ -12,17 +12,18 @@ use lib.ListN.{getD, length, length-append, List·getD-append}
 use lib.Seq.{getD-at, ext-getD}
 use borrow.Author.Tests.{lt-ltb, le-ltb, le-leb, lt-leb, eq-eqb, ne-eqb}
 use Rattle.base.specs.Choice.{pick, either, le-or-lt, same-or-not}
-use Rattle.prices.specs.declared.Prices.{Prices}
+use Rattle.model.specs.Rates.{Rates}
 use Rattle.model.specs.Requests.{Requests, previous}
 use Rattle.model.specs.RequestLaws.{previous-some, none-some}
-use Rattle.model.specs.Marking.{Mark, K, S, legal}
+use Rattle.model.specs.Marking.{Mark, K, S}
 use Rattle.model.specs.Plan.{plan, Agree}
-use Rattle.model.specs.Table.{open-gap, send-price, best}
-use Rattle.model.specs.TableLaws.{span, open-gap-shut}
-use Rattle.model.specs.BestLaws.{legal-S, with-S, with-K, best-none, best-forced, best-both}
+use Rattle.model.specs.Table.{away-price, away-mark, shut-price, may-leave, best}
+use Rattle.model.specs.TableLaws.{span}
+use Rattle.model.specs.Leaving.{away-shut}
+use Rattle.model.specs.BestLaws.{may-none, with-away, with-K, best-none, best-forced, best-both}
 use Rattle.model.specs.TableRows.{Tabled, kept-best}
 use Rattle.model.specs.TableLists.{at, lists, lists-tabled}
-use Rattle.model.specs.Ties.{First, first-zero, first-same, first-K, first-S, first-planned}
+use Rattle.model.specs.Ties.{First, first-zero, first-same, first-K, first-away, first-planned}
 use Rattle.model.specs.PlanLaws.{plan-only}
 
 -- the marking of a list of marks, those of request 1 and on
@@ -60,20 +61,20 @@ listed-at m (suc n) i h = go (le-or-lt n i) (listed-at m n i)
     go (inl a) ih = let e : i ≡ n = omega arith in rw e (getD-at (listed m n) (m (suc n)) [] S n (listed-length m n))
     go (inr a) ih = List·getD-append (listed m n) (m (suc n) ∷ []) S i (omega (arith, listed-length m n)) ∙ ih a
 
--- the mark of a request, by where it is kept from, if it is
-unfoldable pub turn-mark : Option ℕ → Mark
-turn-mark none = S
-turn-mark (some j) = K
-
 -- c for the requests before request i + 1
 unfoldable pub turn-c : Option ℕ → ℕ → ℕ → ℕ
 turn-c none i c = min c i
 turn-c (some j) i c = min c j
 
-module _ (p : Prices) (q : Requests) where
+module _ (p : Rates) (q : Requests) where
+  -- the mark of request i + 1, by where it is kept from, if it is
+  unfoldable pub turn-mark : Option ℕ → ℕ → ℕ → Mark
+  turn-mark none i c = away-mark p q i c
+  turn-mark (some j) i c = K
+
   -- is request i + 1 K, when its previous request is j and the gaps above c are covered: v is H(i + 1, c) and d is D(i + 1)
   unfoldable pub kept-here : ℕ → ℕ → ℕ → ℕ → ℕ → Bool
-  kept-here i c d v j = pick (ltb j c) (eqb d v) (either (not (legal q (suc i) S)) (leb (span p q j (suc i)) (p .transfer)))
+  kept-here i c d v j = pick (ltb j c) (eqb d v) (either (not (may-leave p q (suc i))) (leb (span p q j (suc i)) (shut-price p q i)))
 
   -- where it is kept from, if it is
   unfoldable pub turn : ℕ → ℕ → ℕ → ℕ → Option ℕ
@@ -81,7 +82,7 @@ module _ (p : Prices) (q : Requests) where
 
   -- what its mark costs
   unfoldable pub turn-price : Option ℕ → ℕ → ℕ → ℕ
-  turn-price none i c = send-price p q i c
+  turn-price none i c = away-price p q i c
   turn-price (some j) i c = span p q j (suc i)
 
   -- and v for the requests before it
@@ -91,38 +92,38 @@ module _ (p : Prices) (q : Requests) where
   -- the marks of requests 1 to i, found from i down
   unfoldable pub walk : (ℕ → ℕ) → ℕ → ℕ → ℕ → List Mark
   walk D zero c v = []
-  walk D (suc i) c v = let o = turn i c (D (suc i)) v in walk D i (turn-c o i c) (turn-v o i c v) ++ (turn-mark o ∷ [])
+  walk D (suc i) c v = let o = turn i c (D (suc i)) v in walk D i (turn-c o i c) (turn-v o i c v) ++ (turn-mark o i c ∷ [])
 
   -- what the test tells: whether K attains the table
   data Told (i c j : ℕ) (b : Bool) : Type 0 where
     yes : b ≡ true → best p q (suc i) c ≡ with-K p q i c j → Told i c j b
-    no : b ≡ false → legal q (suc i) S ≡ true → best p q (suc i) c < with-K p q i c j → Told i c j b
+    no : b ≡ false → may-leave p q (suc i) ≡ true → best p q (suc i) c < with-K p q i c j → Told i c j b
 
   -- and it does, where v and d are right
   kept-told : (i c d v j : ℕ) → v ≡ best p q (suc i) c → d ≡ kept-best p q i j → previous q (suc i) ≡ some j → Told i c j (kept-here i c d v j)
-  unfolding kept-here send-price
-  kept-told i c d v j e f z = go (le-or-lt c j) (legal q (suc i) S) refl
+  unfolding kept-here
+  kept-told i c d v j e f z = go (le-or-lt c j) (may-leave p q (suc i)) refl
     where
       price-low : j < c → with-K p q i c j ≡ d
       price-low h = rw (min-eq-right {n = j} {m = c} (omega arith)) (sym f)
 
-      low : j < c → (b : Bool) → legal q (suc i) S ≡ b → (d ≡ v) ⊎ (d ≢ v) → Told i c j (kept-here i c d v j)
+      low : j < c → (b : Bool) → may-leave p q (suc i) ≡ b → (d ≡ v) ⊎ (d ≢ v) → Told i c j (kept-here i c d v j)
       low h b l (inl x) = yes (rw (lt-ltb j c h, eq-eqb d v x)) (omega (arith, price-low h))
       low h false l (inr x) = absurd (x (omega (arith, price-low h, best-forced p q i c j z l)))
       low h true l (inr x) = no (rw (lt-ltb j c h, ne-eqb d v x)) l (omega (arith, price-low h, best-both p q i c j z l))
 
-      shut : c ≤ j → open-gap p q i c ≡ 0
-      shut h = open-gap-shut p q i c (omega (arith, previous-some q (suc i) j z .below))
+      shut : c ≤ j → away-price p q i c ≡ shut-price p q i
+      shut h = away-shut p q i c (omega (arith, previous-some q (suc i) j z .below))
 
       same : c ≤ j → best p q i (min c i) ≡ best p q i (min c j)
       same h = ap (best p q i) (omega (arith, previous-some q (suc i) j z .below))
 
-      high : c ≤ j → legal q (suc i) S ≡ true → (span p q j (suc i) ≤ p .transfer) ⊎ (p .transfer < span p q j (suc i)) → Told i c j (kept-here i c d v j)
+      high : c ≤ j → may-leave p q (suc i) ≡ true → (span p q j (suc i) ≤ shut-price p q i) ⊎ (shut-price p q i < span p q j (suc i)) → Told i c j (kept-here i c d v j)
       high h l (inl x) = yes (rw (le-ltb j c h, l, le-leb _ _ x)) (omega (arith, best-both p q i c j z l, shut h, same h))
       high h l (inr x) = no (rw (le-ltb j c h, l, lt-leb _ _ x)) l (omega (arith, best-both p q i c j z l, shut h, same h))
 
-      go : (c ≤ j) ⊎ (j < c) → (b : Bool) → legal q (suc i) S ≡ b → Told i c j (kept-here i c d v j)
-      go (inl h) true l = high h l (le-or-lt (span p q j (suc i)) (p .transfer))
+      go : (c ≤ j) ⊎ (j < c) → (b : Bool) → may-leave p q (suc i) ≡ b → Told i c j (kept-here i c d v j)
+      go (inl h) true l = high h l (le-or-lt (span p q j (suc i)) (shut-price p q i))
       go (inl h) false l = yes (rw (le-ltb j c h, l)) (best-forced p q i c j z l)
       go (inr h) b l = low h b l (same-or-not d v)
 
@@ -147,7 +148,7 @@ module _ (p : Prices) (q : Requests) where
   walk-length D (suc i) c v =
       let o = turn i c (D (suc i)) v in simp length-append (omega (arith, walk-length D i (turn-c o i c) (turn-v o i c v)))
 
-  -- one more request: its mark is the table's choice, K where both attain it
+  -- one more request: its mark is the table's choice, K where that attains it too
   walk-step : (D : ℕ → ℕ) (i c v : ℕ) → v ≡ best p q (suc i) c → ((j : ℕ) → previous q (suc i) ≡ some j → D (suc i) ≡ kept-best p q i j)
       → ((d w : ℕ) → w ≡ best p q i d → First p q i d (marks (walk D i d w))) → First p q (suc i) c (marks (walk D (suc i) c v))
   unfolding walk turn turn-mark turn-c turn-v turn-price
@@ -159,9 +160,11 @@ module _ (p : Prices) (q : Requests) where
       last : (a : Mark) (d w : ℕ) → marks (walk D i d w ++ (a ∷ [])) (suc i) ≡ a
       last a d w = marks-last (walk D i d w) a i (walk-length D i d w)
 
-      leave : turn i c (D (suc i)) v ≡ none → legal q (suc i) S ≡ true → best p q (suc i) c ≡ with-S p q i c
+      leave : turn i c (D (suc i)) v ≡ none → may-leave p q (suc i) ≡ true → best p q (suc i) c ≡ with-away p q i c
           → ((j : ℕ) → previous q (suc i) ≡ some j → best p q (suc i) c < with-K p q i c j) → First p q (suc i) c (marks (walk D (suc i) c v))
-      leave t l x dear = rw t (first-S p q i c _ (last S (min c i) (v - send-price p q i c)) l x dear (grown S (min c i) (v - send-price p q i c) (omega arith)))
+      leave t l x dear =
+          let a = away-mark p q i c in
+          rw t (first-away p q i c _ (last a (min c i) (v - away-price p q i c)) l x dear (grown a (min c i) (v - away-price p q i c) (omega arith)))
 
       stay : (j : ℕ) → previous q (suc i) ≡ some j → turn i c (D (suc i)) v ≡ some j → best p q (suc i) c ≡ with-K p q i c j
           → First p q (suc i) c (marks (walk D (suc i) c v))
@@ -173,7 +176,7 @@ module _ (p : Prices) (q : Requests) where
           leave (rw (z, turn, t)) l (omega (arith, best-both p q i c j z l)) (λ k w. let u : j ≡ k = cc in rw (← u) x)
 
       go : (o : Option ℕ) → previous q (suc i) ≡ o → First p q (suc i) c (marks (walk D (suc i) c v))
-      go none z = leave (rw (z, turn)) (legal-S q i z) (best-none p q i c z) (λ j w. absurd (none-some z w))
+      go none z = leave (rw (z, turn)) (may-none p q i z) (best-none p q i c z) (λ j w. absurd (none-some z w))
       go (some j) z = told j z (kept-told i c (D (suc i)) v j e (f j z) z)
 
   -- so the walk's marks are those that a plan must have

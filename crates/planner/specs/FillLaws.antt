@@ -5,7 +5,7 @@ use native.Mathlib.Omega.{arith}
 use Prim.Native.Nat.{ℕ, suc, _≤_, _<_}
 use lib.ListN.{getD, length, drop, set, List·getD-append}
 use lib.Seq.{drop-cons, set-at, append-snoc}
-use Rattle.prices.specs.declared.Prices.{Prices}
+use Rattle.model.specs.Rates.{Rates}
 use Rattle.model.specs.Requests.{Requests}
 use Rattle.model.specs.TableRows.{next-D, next-C, Tabled, next-D-same, tabled-same}
 use Rattle.model.specs.TableLists.{at, lists, lists-length, lists-tabled}
@@ -19,7 +19,7 @@ pub set-first : (o : List ℕ) (v : ℕ) → 0 < length o → set o 0 v ≡ v �
 set-first [] v h = absurd (omega arith)
 set-first (x ∷ o) v h = refl
 
-module _ (p : Prices) (q : Requests) where
+module _ (p : Rates) (q : Requests) where
   -- C(0) to C(i) at the front of a list
   abbrev pub costs-front : ℕ → List ℕ → List ℕ
   costs-front i o = lists p q i .costs ++ drop (suc i) o

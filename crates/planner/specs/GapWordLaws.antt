@@ -1,5 +1,5 @@
 -- The words of the gaps, filled in from the last gap to the first.
-use mathlib.Core.Bool.{Bool, true, false}
+use mathlib.Core.Bool.{Bool, true, false, not}
 use mathlib.Core.List.{List}
 use mathlib.Core.Logic.{_⊎_, inl, inr, _≢_}
 use mathlib.Core.Path.{_≡_, refl, sym, _∙_}
@@ -8,20 +8,42 @@ use Prim.Native.Nat.{ℕ, suc, pred, _-_, _≤_, _<_}
 use lib.Dec.{ltb, eqb}
 use lib.ListN.{length, getD, set, replicate, length-replicate, getD-replicate}
 use lib.Seq.{ext-getD}
-use borrow.Author.Tests.{lt-ltb, le-ltb, le-leb, lt-leb}
-use Rattle.base.specs.Choice.{pick, le-or-lt}
+use borrow.Author.Tests.{lt-ltb, le-ltb, le-leb, lt-leb, ne-eqb}
+use Rattle.base.specs.Choice.{pick, le-or-lt, same-or-not}
 use Rattle.base.specs.Lists.{build, build-length, build-at, build-same, build-set}
-use Rattle.model.specs.Marking.{Mark, K, S, keeps}
-use Rattle.planner.specs.HolderWords.{kept-step, kept-word, or-server, holders-word, gap-word, marking}
+use Rattle.model.specs.Marking.{Mark, K, S, U, keeps, sends, loads}
+use Rattle.planner.specs.HolderWords.{kept-step, kept-word, or-server, holders-word, gap-word, spelled, marking}
 
 -- a mark by its letter
 pub keeps-letter : (letters : List ℕ) (i : ℕ) → keeps (marking letters (suc i)) ≡ eqb (getD letters i 0) 75
-unfolding keeps marking
-keeps-letter letters i = go (eqb (getD letters i 0) 75)
+unfolding keeps marking spelled
+keeps-letter letters i = go (eqb (getD letters i 0) 75) (eqb (getD letters i 0) 85)
   where
-    go : (b : Bool) → keeps (pick b K S) ≡ b
-    go true = refl
-    go false = refl
+    go : (a b : Bool) → keeps (pick a K (pick b U S)) ≡ a
+    go true b = refl
+    go false true = refl
+    go false false = refl
+
+pub sends-letter : (letters : List ℕ) (i : ℕ) → sends (marking letters (suc i)) ≡ pick (eqb (getD letters i 0) 75) false (not (eqb (getD letters i 0) 85))
+unfolding sends marking spelled
+sends-letter letters i = go (eqb (getD letters i 0) 75) (eqb (getD letters i 0) 85)
+  where
+    go : (a b : Bool) → sends (pick a K (pick b U S)) ≡ pick a false (not b)
+    go true b = refl
+    go false true = refl
+    go false false = refl
+
+pub loads-letter : (letters : List ℕ) (i : ℕ) → loads (marking letters (suc i)) ≡ eqb (getD letters i 0) 85
+unfolding loads marking spelled
+loads-letter letters i = go (same-or-not (getD letters i 0) 75)
+  where
+    by : (b : Bool) → loads (pick b U S) ≡ b
+    by true = refl
+    by false = refl
+
+    go : (getD letters i 0 ≡ 75) ⊎ (getD letters i 0 ≢ 75) → loads (spelled (getD letters i 0)) ≡ eqb (getD letters i 0) 85
+    go (inl e) = rw e
+    go (inr d) = rw (ne-eqb (getD letters i 0) 75 d) (by (eqb (getD letters i 0) 85))
 
 module _ (s : ℕ → ℕ) (m : ℕ → Mark) (n : ℕ) where
   -- the words of the gaps above i
@@ -59,12 +81,12 @@ module _ (s : ℕ → ℕ) (m : ℕ → Mark) (n : ℕ) where
 
   -- and its word
   pub words-back : (size i : ℕ) → 1 ≤ i → i ≤ n → n < size
-      → set (build size (words-above i)) i (or-server (kept-word s m (suc (i - 1)) (n - (i - 1))) (s (i - 1))) ≡ build size (words-above (i - 1))
+      → set (build size (words-above i)) i (or-server (kept-word s m (suc (i - 1)) (n - (i - 1))) (s (i - 1)) (loads (m (suc (i - 1))))) ≡ build size (words-above (i - 1))
   unfolding words-above gap-word holders-word
   words-back size i a b l =
-      build-set size i (or-server (kept-word s m (suc (i - 1)) (n - (i - 1))) (s (i - 1))) (words-above i) (words-above (i - 1)) here (λ k d. sym (there k d (le-or-lt k (i - 1))))
+      build-set size i (or-server (kept-word s m (suc (i - 1)) (n - (i - 1))) (s (i - 1)) (loads (m (suc (i - 1))))) (words-above i) (words-above (i - 1)) here (λ k d. sym (there k d (le-or-lt k (i - 1))))
     where
-      here : words-above (i - 1) i ≡ or-server (kept-word s m (suc (i - 1)) (n - (i - 1))) (s (i - 1))
+      here : words-above (i - 1) i ≡ or-server (kept-word s m (suc (i - 1)) (n - (i - 1))) (s (i - 1)) (loads (m (suc (i - 1))))
       here =
           let e : suc (i - 1) ≡ i = omega arith in
           let d : n - (i - 1) ≡ suc n - i = omega arith in

@@ -1,5 +1,5 @@
 -- The words are right: server y is a member of the word of gap k if and only if it holds over gap k.
-use mathlib.Core.Bool.{Bool, true, false}
+use mathlib.Core.Bool.{Bool, true, false, not}
 use mathlib.Core.Logic.{_⊎_, inl, inr, _≢_}
 use mathlib.Core.Path.{_≡_, refl, sym, ap, _∙_}
 use native.Mathlib.Omega.{arith}
@@ -10,9 +10,10 @@ use Rattle.base.specs.Choice.{pick, both, le-or-lt, same-or-not, true-or-false,
 use Rattle.base.specs.Sets.{has, put, cut}
 use Rattle.base.specs.SetLaws.{has-none, has-put, has-put-other, has-cut, has-cut-other, put-under, cut-le}
 use Rattle.base.specs.WordLaws.{leading-highest}
+use Rattle.model.specs.Rates.{Rates}
 use Rattle.model.specs.Requests.{Requests, Within}
 use Rattle.model.specs.RequestLaws.{previous-some}
-use Rattle.model.specs.Marking.{Mark, K, S, keeps, spans, any, covered, holds, Valid}
+use Rattle.model.specs.Marking.{Mark, K, S, U, keeps, loads, spans, any, covered, holds, Valid}
 use Rattle.base.specs.ChoiceLaws.{both-true}
 use Rattle.model.specs.TestLaws.{any-true, any-has}
 use Rattle.model.specs.LegalLaws.{kept-from}
@@ -101,21 +102,22 @@ module _ (q : Requests) (m : ℕ → Mark) (n : ℕ) where
       }
 
   -- over the gap before a request there is one at its server if and only if the request is K
-  kept-here : Valid q m n → (k : ℕ) → 1 ≤ k → k ≤ n → keeps (m k) ≡ true → Kept k (q .server k)
+  kept-here : (p : Rates) → Valid p q m n → (k : ℕ) → 1 ≤ k → k ≤ n → keeps (m k) ≡ true → Kept k (q .server k)
   unfolding keeps
-  kept-here v k a b e = go (m k) refl
+  kept-here p v k a b e = go (m k) refl
     where
       go : (c : Mark) → m k ≡ c → Kept k (q .server k)
       go K z =
-          let p = kept-from q k (rw z at (v k a b)) in
+          let t = kept-from p q k (rw z at (v k a b)) in
           record {
             request = k;
             low = a;
             high = b;
             there = refl;
-            span = record { start = p .0; kept = z; since = p .1; above = (previous-some q k (p .0) (p .1)) .below; upto = omega arith };
+            span = record { start = t .0; kept = z; since = t .1; above = (previous-some q k (t .0) (t .1)) .below; upto = omega arith };
           }
       go S z = absurd (not-both e (rw z))
+      go U z = absurd (not-both e (rw z))
 
   here-kept : (k : ℕ) → Kept k (q .server k) → keeps (m k) ≡ true
   unfolding keeps
@@ -124,7 +126,7 @@ module _ (q : Requests) (m : ℕ → Mark) (n : ℕ) where
     | inr h ↦ absurd ((previous-some q (r .request) (r .span .start) (r .span .since)) .last k (r .span .above) h (sym (r .there)))
   ]
 
-  module _ (valid : Valid q m n) (within : Within 64 q n) where
+  module _ (p : Rates) (valid : Valid p q m n) (within : Within 64 q n) where
     -- the word of a gap has the servers with a K span over it
     pub kept-true : (d k : ℕ) → k + d ≡ suc n → 1 ≤ k → (y : ℕ) → has (kept-word (q .server) m k d) y ≡ true → Kept k y
     unfolding kept-word Within
@@ -137,7 +139,7 @@ module _ (q : Requests) (m : ℕ → Mark) (n : ℕ) where
         go : (y ≡ q .server k) ⊎ (y ≢ q .server k) → (has (kept-word (q .server) m (suc k) d) y ≡ true → Kept (suc k) y) → Kept k y
         go (inl z) ih =
             let t : keeps (m k) ≡ true = sym (step-same (kept-word (q .server) m (suc k) d) (q .server k) (keeps (m k)) x) ∙ rw z at h in
-            rw z (kept-here valid k a (omega arith) t)
+            rw z (kept-here p valid k a (omega arith) t)
         go (inr z) ih = kept-earlier k y z (ih (sym (step-other (kept-word (q .server) m (suc k) d) (q .server k) (keeps (m k)) y x z) ∙ h))
 
     -- and no other
@@ -201,6 +203,10 @@ module _ (q : Requests) (m : ℕ → Mark) (n : ℕ) where
           | inr e ↦ rw (joined-put 0 x h, ne-eqb y x e) (has-put-other 0 x y e ∙ has-none y)
         ]
 
-        go : (w ≡ 0) ⊎ (w ≢ 0) → has (pick (eqb w 0) (joined 0 (q .server (pred k))) w) y ≡ holds q m n k y
-        go (inl z) = rw (eq-eqb w 0 z, empty z) (alone (q .server (pred k)) (within (pred k) (omega arith)))
+        unheld : (b : Bool) → has (pick b 0 (joined 0 (q .server (pred k)))) y ≡ both (not b) (eqb y (q .server (pred k)))
+        unheld true = has-none y
+        unheld false = alone (q .server (pred k)) (within (pred k) (omega arith))
+
+        go : (w ≡ 0) ⊎ (w ≢ 0) → has (pick (eqb w 0) (pick (loads (m k)) 0 (joined 0 (q .server (pred k)))) w) y ≡ holds q m n k y
+        go (inl z) = rw (eq-eqb w 0 z, empty z) (unheld (loads (m k)))
         go (inr z) = rw (ne-eqb w 0 z, full z) there

@@ -1,5 +1,6 @@
 -- The least costs that are written for a log are those that it has.
 use mathlib.Core.List.{List, [], _∷_, _++_}
+use mathlib.Core.Option.{Option}
 use mathlib.Core.Path.{_≡_, refl, sym, ap, _∙_}
 use native.Mathlib.Omega.{arith}
 use Prim.Native.Nat.{ℕ, suc, _≤_, _<_}
@@ -10,27 +11,27 @@ use Rattle.base.specs.Lists.{build, build-length, build-at, cleared}
 use Rattle.base.specs.Lent.{lent}
 use Rattle.base.specs.LentLaws.{lent-front}
 use Rattle.base.specs.Refusals.{first, short, otherwise}
-use Rattle.base.specs.RefusalLaws.{first-append, first-met, first-failed, otherwise-assoc}
+use Rattle.base.specs.RefusalLaws.{first-met, first-failed}
 use Rattle.base.specs.declared.Refusal.{Refusal}
 use Rattle.base.specs.declared.Verdict.{Verdict}
 use Rattle.base.specs.declared.Verdict.the-variants.{Passed, Refused}
 use Rattle.prices.specs.Tariff.{Tariff}
 use Rattle.log.specs.Fields.{request-count}
-use Rattle.log.specs.Conditions.{log-conditions, verdict-of, Accepted}
-use Rattle.prices.specs.declared.Prices.{Prices}
+use Rattle.model.specs.Rates.{Rates}
 use Rattle.model.specs.Requests.{Requests}
 use Rattle.model.specs.Plan.{plan-cost}
 use Rattle.model.specs.PlanLaws.{plan-best}
 use Rattle.model.specs.TableLists.{lists, lists-length, lists-costs}
-use Rattle.model.specs.LogRequests.{requests-in, prices-in}
+use Rattle.model.specs.LogRequests.{requests-in, rates-in}
 use Rattle.planner.specs.declared.LeastCosts.{LeastCosts}
 use Rattle.planner.specs.declared.requests.Summary.{Summary}
 use Rattle.planner.specs.Answers.{least-costs, least-verdict, least-answer, costs-left}
 use Rattle.planner.specs.LeastAnswer.{costs-answer}
-use Rattle.planner.specs.Loading.{summary-of}
+use Rattle.planner.specs.Loading.{offer-verdict, summary-of}
+use Rattle.planner.specs.SummaryLaws.{offer-parts}
 
 -- the table's C is the least cost of each number of requests
-pub lists-least : (p : Prices) (q : Requests) (n : ℕ) → lists p q n .costs ≡ build (suc n) (λ k. plan-cost p q k)
+pub lists-least : (p : Rates) (q : Requests) (n : ℕ) → lists p q n .costs ≡ build (suc n) (λ k. plan-cost p q k)
 lists-least p q n =
     ext-getD 0 (lists p q n .costs) (build (suc n) (λ k. plan-cost p q k)) (lists-length p q n .0 ∙ sym (build-length (suc n) (λ k. plan-cost p q k)))
     (λ k h.
@@ -46,30 +47,26 @@ unfolding first
 room n o h = first-failed (short (suc n) (length o)) [] (le-ltb (length o) (suc n) h)
 
 -- the costs at the front, zeroed beyond
-pub costs-lent : (p : Prices) (q : Requests) (n : ℕ) (o : List ℕ) → suc n ≤ length o
+pub costs-lent : (p : Rates) (q : Requests) (n : ℕ) (o : List ℕ) → suc n ≤ length o
     → cleared (suc n) (lists p q n .costs ++ drop (suc n) o) ≡ lent Passed (lists p q n .costs) o
 costs-lent p q n o h = lent-front (lists p q n .costs) o (suc n) (lists-length p q n .0) h
 
--- the answer, and what the lent list holds at the end
-abbrev pub Least-so : Tariff → List ℕ → List ℕ → LeastCosts → List ℕ → Type 0
-Least-so t log costs r costs′ =
-    (r ≡ least-answer (least-verdict t log (length costs)) log)
-    × (costs′ ≡ costs-left t log costs)
+-- the answer for a log, and what the lent list holds at the end
+abbrev pub Least-so : Tariff → Option ℕ → List ℕ → List ℕ → LeastCosts → List ℕ → Type 0
+Least-so t u log costs r costs′ = (r ≡ least-answer (least-verdict t u log (length costs)) log) × (costs′ ≡ costs-left t u log costs)
 
--- the verdict by the log's and by the length of the lent list
-least-parts : (t : Tariff) (log costs : List ℕ)
-    → least-verdict t log (length costs) ≡ otherwise (verdict-of t log) (first (short (suc (request-count log)) (length costs) ∷ []))
-unfolding least-verdict verdict-of
-least-parts t log costs =
-    ap (otherwise (t .judged)) (first-append (log-conditions (t .table) log) (short (suc (request-count log)) (length costs) ∷ []))
-    ∙ otherwise-assoc (t .judged) (first (log-conditions (t .table) log)) _
+-- the verdict by the log's and the upload price's, and by the length of the lent list
+least-parts : (t : Tariff) (u : Option ℕ) (log costs : List ℕ)
+    → least-verdict t u log (length costs) ≡ otherwise (offer-verdict t u log) (first (short (suc (request-count log)) (length costs) ∷ []))
+unfolding least-verdict
+least-parts t u log costs = offer-parts t u log (short (suc (request-count log)) (length costs) ∷ [])
 
--- a refused log
-pub least-refused : (t : Tariff) (log costs : List ℕ) (e : Refusal) (r : LeastCosts) → verdict-of t log ≡ Refused e → r ≡ costs-answer (Refused e) 0
-    → Least-so t log costs r costs
+-- a refused log or upload price
+pub least-refused : (t : Tariff) (u : Option ℕ) (log costs : List ℕ) (e : Refusal) (r : LeastCosts) → offer-verdict t u log ≡ Refused e → r ≡ costs-answer (Refused e) 0
+    → Least-so t u log costs r costs
 unfolding least-answer lent costs-answer
-least-refused t log costs e r v a =
-    let w : least-verdict t log (length costs) ≡ Refused e = least-parts t log costs ∙ rw v in
+least-refused t u log costs e r v a =
+    let w : least-verdict t u log (length costs) ≡ Refused e = least-parts t u log costs ∙ rw v in
     (rw w a, rw w)
 
 -- an answer by a verdict
@@ -78,15 +75,15 @@ unfolding costs-answer least-answer
 answer-least Passed log = refl
 answer-least (Refused e) log = refl
 
--- an accepted one, by its requests as they were read
-pub least-accepted : (t : Tariff) (log costs : List ℕ) → Accepted t log → (s : Summary) → s ≡ summary-of t log → (q : Requests) → q ≡ requests-in log
-    → (r : LeastCosts) (costs′ : List ℕ)
+-- an accepted one, by its requests as they were read and what its plan is billed by
+pub least-accepted : (t : Tariff) (u : Option ℕ) (log costs : List ℕ) → offer-verdict t u log ≡ Passed → (s : Summary) → s ≡ summary-of t u log
+    → (q : Requests) → q ≡ requests-in log → (p : Rates) → p ≡ rates-in t u log → (r : LeastCosts) (costs′ : List ℕ)
     → r ≡ costs-answer (first (short (suc (s .requests)) (length costs) ∷ [])) (s .requests)
-    → costs′ ≡ lent (first (short (suc (s .requests)) (length costs) ∷ [])) (lists (s .prices) q (s .requests) .costs) costs
-    → Least-so t log costs r costs′
-unfolding Accepted least-costs summary-of
-least-accepted t log costs ok s e q f r costs′ a b =
-    let v : first (short (suc (request-count log)) (length costs) ∷ []) ≡ least-verdict t log (length costs) = sym (least-parts t log costs ∙ rw ok) in (
-      a ∙ rw (e, v) (answer-least (least-verdict t log (length costs)) log),
-      b ∙ rw (e, f, v) (ap (λ (x : List ℕ). lent (least-verdict t log (length costs)) x costs) (lists-least (prices-in t log) (requests-in log) (request-count log))),
+    → costs′ ≡ lent (first (short (suc (s .requests)) (length costs) ∷ [])) (lists p q (s .requests) .costs) costs
+    → Least-so t u log costs r costs′
+unfolding least-costs summary-of
+least-accepted t u log costs ok s e q f p g r costs′ a b =
+    let v : first (short (suc (request-count log)) (length costs) ∷ []) ≡ least-verdict t u log (length costs) = sym (least-parts t u log costs ∙ rw ok) in (
+      a ∙ rw (e, v) (answer-least (least-verdict t u log (length costs)) log),
+      b ∙ rw (e, f, g, v) (ap (λ (x : List ℕ). lent (least-verdict t u log (length costs)) x costs) (lists-least (rates-in t u log) (requests-in log) (request-count log))),
     )

@@ -4,6 +4,8 @@ pub mod Answers
 pub mod Sizes
 -- How the code comes by it, and why that is the same.
 pub mod Asked
+pub mod Fees
+pub mod FeeLaws
 pub mod Terms
 pub mod Fits
 pub mod TermLaws

@@ -1,6 +1,7 @@
 -- The lists that are loaded from an accepted log: its requests, with room after them that changes nothing, and ready for the table.
 use mathlib.Core.List.{List, [], _∷_, _++_}
 use mathlib.Core.Logic.{_⊎_, inl, inr}
+use mathlib.Core.Option.{Option}
 use mathlib.Core.Path.{_≡_, refl, sym, ap, ap₂, _∙_, fun-ext}
 use native.Mathlib.Omega.{arith}
 use Prim.Native.Nat.{ℕ, zero, suc, _+_, _-_, _≤_, _<_}
@@ -8,11 +9,13 @@ use lib.ListN.{length, take, drop, set, replicate, length-replicate, getD-replic
 use lib.Seq.{getD-append-add}
 use Rattle.base.specs.Choice.{le-or-lt}
 use Rattle.base.specs.Lent.{lent}
+use Rattle.base.specs.Refusals.{first}
 use Rattle.base.specs.Lists.{build, build-at}
 use Rattle.base.specs.declared.Verdict.{Verdict}
 use Rattle.base.specs.declared.Verdict.the-variants.{Passed, Refused}
 use Rattle.prices.specs.Tariff.{Tariff}
 use Rattle.prices.specs.PriceLaws.{Priced}
+use Rattle.prices.specs.Uploads.{upload-conditions}
 use Rattle.log.specs.Fields.{request-count, servers-of}
 use Rattle.log.specs.Conditions.{verdict-of, Accepted}
 use Rattle.log.specs.Ranges.{Sound}
@@ -20,10 +23,12 @@ use Rattle.log.specs.AcceptedLaws.{accepted-sound, servers-length}
 use Rattle.base.specs.declared.Refusal.{Refusal}
 use Rattle.model.specs.Requests.{Requests, requests, latest, previous}
 use Rattle.model.specs.TableLists.{at}
-use Rattle.model.specs.LogRequests.{requests-in, prices-in}
+use Rattle.model.specs.LogRequests.{requests-in, rates-in}
+use Rattle.model.specs.Rates.{rates}
 use Rattle.model.specs.LogRequestLaws.{sound-seconds, log-rising, log-priced}
 use Rattle.planner.specs.Asked.{asks}
 use Rattle.planner.specs.Terms.{index}
+use Rattle.planner.specs.FeeLaws.{upload-most}
 use Rattle.planner.specs.Fits.{Fits, Ready}
 use Rattle.planner.specs.Loading.{seconds-with-home, servers-with-home, links}
 
@@ -104,12 +109,14 @@ module _ (t : Tariff) (log : List ℕ) (ok : Accepted t log) where
       ∙ ap (λ (w : Verdict). lent w (links (servers-with-home log) (request-count log)) p) (sym ok)
 
   -- all costs fit
-  pub log-fits : Priced t → Fits (prices-in t log) (requests-in log) (request-count log)
-  log-fits priced =
+  pub log-fits : Priced t → (u : Option ℕ) → first (upload-conditions u) ≡ Passed → Fits (rates-in t u log) (requests-in log) (request-count log)
+  unfolding rates
+  log-fits priced u offer =
       let p = log-priced t priced log ok in
       record {
         hold-most = p .hold-most;
         transfer-most = p .transfer-most;
+        upload-most = upload-most u offer;
         requests-most = sound .requests-most;
         times-most = sound-seconds log sound;
         rising = log-rising t log ok;
@@ -127,11 +134,11 @@ module _ (t : Tariff) (log : List ℕ) (ok : Accepted t log) where
         ap₂ (λ (t s : ℕ → ℕ). record { time = t; server = s }) (at-lent (seconds-with-home log) o₁) (at-lent (servers-with-home log) o₂) ∙ with-home log
 
     -- and they are ready
-    pub lent-ready : Priced t → Ready (prices-in t log) (lent Passed (seconds-with-home log) o₁) (lent Passed (servers-with-home log) o₂)
+    pub lent-ready : Priced t → (u : Option ℕ) → first (upload-conditions u) ≡ Passed → Ready (rates-in t u log) (lent Passed (seconds-with-home log) o₁) (lent Passed (servers-with-home log) o₂)
         (lent Passed (links (servers-with-home log) (request-count log)) o₃) (request-count log)
-    lent-ready p =
+    lent-ready p u offer =
         record {
-          fits = rw lent-requests (log-fits p);
+          fits = rw lent-requests (log-fits p u offer);
           linked = λ i h.
               ap (λ (f : ℕ → ℕ). f i) (at-lent (links (servers-with-home log) (request-count log)) o₃)
               ∙ links-right i h

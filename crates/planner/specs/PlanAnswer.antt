@@ -8,7 +8,7 @@ use Rattle.base.specs.Lent.{lent}
 use Rattle.base.specs.Lists.{build}
 use Rattle.base.specs.declared.Verdict.{Verdict}
 use Rattle.base.specs.declared.Verdict.the-variants.{Passed, Refused}
-use Rattle.prices.specs.declared.Prices.{Prices}
+use Rattle.model.specs.Rates.{Rates}
 use Rattle.log.specs.Sizes.{most-requests}
 use Rattle.model.specs.Requests.{Requests, Within}
 use Rattle.model.specs.Schedule.{Row}
@@ -21,13 +21,14 @@ use Rattle.planner.specs.Asked.{asks}
 use Rattle.planner.specs.Answers.{letter}
 use Rattle.planner.specs.declared.Planned.the-variants as planned′
 
--- n requests at servers below the count, with legal marks
+-- n requests at servers below the count, with marks that are legal at some rates
 pub record Marked (n count : ℕ) (seconds servers letters : List ℕ) : Type 0 where
   pub few-requests : n ≤ most-requests
   pub few-servers : count ≤ 64
   pub lettered : n ≤ length letters
   pub within : Within count (asks seconds servers) n
-  pub legal-marks : Valid (asks seconds servers) (marking letters) n
+  pub at-rates : Rates
+  pub legal-marks : Valid at-rates (asks seconds servers) (marking letters) n
 
 -- their rows
 unfoldable pub marked-rows : ℕ → ℕ → List ℕ → List ℕ → List ℕ → List Row
@@ -49,9 +50,9 @@ pub record Answered (found : List Row) (n cost : ℕ) (letters marks rows : List
   pub rows-left : rows′ ≡ lent (lengths-verdict found n marks rows) (flat found) rows
 
 -- the letters of the plan's marks
-unfoldable pub plan-letters : Prices → Requests → ℕ → List ℕ
+unfoldable pub plan-letters : Rates → Requests → ℕ → List ℕ
 plan-letters p q n = build n (λ i. letter (plan p q n (suc i)))
 
 -- the answer for the plan of n requests
-abbrev pub Plan-answered : Prices → Requests → ℕ → ℕ → List ℕ → List ℕ → Planned → List ℕ → List ℕ → Type 0
+abbrev pub Plan-answered : Rates → Requests → ℕ → ℕ → List ℕ → List ℕ → Planned → List ℕ → List ℕ → Type 0
 Plan-answered p q n count = Answered (plan-rows p q count n) n (plan-cost p q n) (plan-letters p q n)

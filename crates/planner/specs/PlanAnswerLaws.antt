@@ -41,7 +41,7 @@ module _ (n count : ℕ) (seconds servers letters : List ℕ) (d : Marked n coun
   right =
       let e : min n most-requests ≡ n = omega (arith, d .few-requests) in
       rw e
-      (gap-words-right (asks seconds servers) (marking letters) (marking letters) n places (d .legal-marks) (λ i h. omega (arith, d .within i h, d .few-servers)) (λ i a b. refl) (omega (arith, d .few-requests)))
+      (gap-words-right (d .at-rates) (asks seconds servers) (marking letters) (marking letters) n places (d .legal-marks) (λ i h. omega (arith, d .within i h, d .few-servers)) (λ i a b. refl) (omega (arith, d .few-requests)))
 
   -- no word has place 0
   none-first : getD (filled n servers letters) 0 0 ≡ 0

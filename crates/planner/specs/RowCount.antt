@@ -12,7 +12,7 @@ use Rattle.model.specs.Marking.{Mark, keeps}
 unfoldable pub begun : List ℕ → ℕ → ℕ
 begun words k = members 64 (getD words k 0) - members 64 (bitAnd (getD words k 0) (getD words (pred k) 0))
 
--- the transfer to request i, if it is S
+-- the transfer or upload to request i, if it is not K
 unfoldable pub sent-at : (ℕ → Mark) → ℕ → ℕ
 sent-at m i = pick (keeps (m i)) 0 1
 

@@ -15,8 +15,8 @@ use Rattle.base.specs.SetLaws.{has-none}
 use Rattle.model.specs.Sums.{sum}
 use Rattle.model.specs.SumLaws.{sum-same, sum-add, sum-zero}
 use Rattle.model.specs.Requests.{Requests, Within}
-use Rattle.model.specs.Schedule.{Row, move, transfer}
-use Rattle.model.specs.Marking.{Mark, keeps, begins-run, hold-rows, all-holds, transfers, source, rows-from, rows}
+use Rattle.model.specs.Schedule.{Row, move, transfer, upload}
+use Rattle.model.specs.Marking.{Mark, K, S, U, keeps, sends, loads, begins-run, hold-rows, all-holds, transfers, uploads, source, rows-from, rows}
 use Rattle.model.specs.RunLaws.{hold-rows-count}
 use Rattle.model.specs.Plan.{Agree}
 use Rattle.planner.specs.WordRows.{holder-at, word-holds}
@@ -111,21 +111,26 @@ module _ (words : List ℕ) where
         go true false e = omega arith
         go false y e = omega arith
 
--- ---- the transfers
+-- ---- the transfers and uploads
 
--- they are as many as the S marks
-sent-length : (q : Requests) (m : ℕ → Mark) (from : ℕ → ℕ) (n : ℕ) → length (transfers q m from n) ≡ sum n (sent-at m)
-unfolding transfers sum sent-at
-sent-length q m from zero = refl
-sent-length q m from (suc n) = go (keeps (m (suc n))) (sent-length q m from n)
+-- they are as many as the marks that are not K
+moves-length : (q : Requests) (m : ℕ → Mark) (from : ℕ → ℕ) (n : ℕ) → length (transfers q m from n) + length (uploads q m n) ≡ sum n (sent-at m)
+unfolding transfers uploads sum sent-at keeps sends loads
+moves-length q m from zero = refl
+moves-length q m from (suc n) = go (m (suc n)) (moves-length q m from n)
   where
     row : Row
     row = move (transfer (from (suc n)) (q .server (suc n)) (q .time (suc n)))
 
-    go : (b : Bool) → length (transfers q m from n) ≡ sum n (sent-at m)
-        → length (transfers q m from n ++ pick b [] (row ∷ [])) ≡ pick b 0 1 + sum n (sent-at m)
-    go true ih = omega (arith, length-append (transfers q m from n) [])
-    go false ih = omega (arith, length-append (transfers q m from n) (row ∷ []))
+    load : Row
+    load = move (upload (q .server (suc n)) (q .time (suc n)))
+
+    go : (a : Mark) → length (transfers q m from n) + length (uploads q m n) ≡ sum n (sent-at m)
+        → length (transfers q m from n ++ pick (sends a) (row ∷ []) []) + length (uploads q m n ++ pick (loads a) (load ∷ []) [])
+        ≡ pick (keeps a) 0 1 + sum n (sent-at m)
+    go K ih = omega (arith, length-append (transfers q m from n) [], length-append (uploads q m n) [])
+    go S ih = omega (arith, length-append (transfers q m from n) (row ∷ []), length-append (uploads q m n) [])
+    go U ih = omega (arith, length-append (transfers q m from n) [], length-append (uploads q m n) (load ∷ []))
 
 -- ---- the rows
 
@@ -165,6 +170,7 @@ module _ (q : Requests) (m : ℕ → Mark) (n count : ℕ) (words : List ℕ) (r
         sum-same n (sent-at m′) (sent-at m) (λ i a b. rw (agree i a b)),
         holds-length words q n count,
         ap length (word-holds-right q m n words right count),
-        sent-length q m (source q count m n) n,
-        length-append (all-holds q m n count) (transfers q m (source q count m n) n),
+        moves-length q m (source q count m n) n,
+        length-append (all-holds q m n count) (transfers q m (source q count m n) n ++ uploads q m n),
+        length-append (transfers q m (source q count m n) n) (uploads q m n),
       )

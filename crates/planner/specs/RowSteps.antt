@@ -1,17 +1,17 @@
 -- The rows step by step, as the code finds them.
 use mathlib.Core.Bool.{Bool, true, false, not}
-use mathlib.Core.List.{List, [], _∷_}
-use mathlib.Core.Path.{_≡_, refl, ap, _∙_}
+use mathlib.Core.List.{List, [], _∷_, _++_, append-assoc}
+use mathlib.Core.Path.{_≡_, refl, sym, ap, _∙_}
 use native.Mathlib.Omega.{arith}
 use Prim.Native.Nat.{ℕ, zero, suc, pred, _+_, _-_, _≤_, _<_}
-use lib.ListN.{length}
+use lib.ListN.{length, length-append}
 use borrow.Author.Tests.{lt-ltb, le-ltb}
 use Rattle.model.specs.Requests.{Requests}
-use Rattle.model.specs.Schedule.{Row, hold, move, transfer}
-use Rattle.model.specs.Marking.{Mark, keeps, begins-run, run-end, hold-rows, transfers}
+use Rattle.model.specs.Schedule.{Row, hold, move, transfer, upload}
+use Rattle.model.specs.Marking.{Mark, sends, loads, begins-run, run-end, hold-rows, transfers, uploads}
 use Rattle.planner.specs.Asked.{asks}
-use Rattle.planner.specs.WordRows.{holder-at, new-hold, new-transfer, word-holds, word-source, word-rows}
-use Rattle.planner.specs.RowWriting.{put-rows, put-next}
+use Rattle.planner.specs.WordRows.{holder-at, new-hold, new-transfer, new-upload, word-holds, word-source, word-rows}
+use Rattle.planner.specs.RowWriting.{put-rows, Put, put-next}
 
 module _ (f : ℕ → Bool) (n : ℕ) where
   -- it ends before a gap that fails
@@ -70,23 +70,59 @@ unfolding new-hold
 hold-one q f n y k e = rw e
 
 -- the transfer to a request, if it is S
-pub transfer-none : (q : Requests) (m : ℕ → Mark) (from : ℕ → ℕ) (i : ℕ) → keeps (m (suc i)) ≡ true → new-transfer q m from i ≡ []
+pub transfer-none : (q : Requests) (m : ℕ → Mark) (from : ℕ → ℕ) (i : ℕ) → sends (m (suc i)) ≡ false → new-transfer q m from i ≡ []
 unfolding new-transfer
 transfer-none q m from i e = rw e
 
-pub transfer-one : (q : Requests) (m : ℕ → Mark) (from : ℕ → ℕ) (i : ℕ) → keeps (m (suc i)) ≡ false
+pub transfer-one : (q : Requests) (m : ℕ → Mark) (from : ℕ → ℕ) (i : ℕ) → sends (m (suc i)) ≡ true
     → new-transfer q m from i ≡ move (transfer (from (suc i)) (q .server (suc i)) (q .time (suc i))) ∷ []
 unfolding new-transfer
 transfer-one q m from i e = rw e
 
+-- the upload to it, if it is U
+pub upload-none : (q : Requests) (m : ℕ → Mark) (i : ℕ) → loads (m (suc i)) ≡ false → new-upload q m i ≡ []
+unfolding new-upload
+upload-none q m i e = rw e
+
+pub upload-one : (q : Requests) (m : ℕ → Mark) (i : ℕ) → loads (m (suc i)) ≡ true → new-upload q m i ≡ move (upload (q .server (suc i)) (q .time (suc i))) ∷ []
+unfolding new-upload
+upload-one q m i e = rw e
+
+-- a list of no rows
+none : (rows : List Row) → length rows ≡ 0 → rows ≡ []
+none [] e = refl
+none (r ∷ rows) e = absurd (omega arith)
+
 -- the holds put in, then the transfers
-pub put-both : (times servers words : List ℕ) (m : ℕ → Mark) (n count next : ℕ) (o p r : List ℕ)
-    → next ≡ length (word-holds (asks times []) words n count)
-    → p ≡ put-rows 0 (word-holds (asks times []) words n count) o
-    → r ≡ put-rows next (transfers (asks times servers) m (word-source (asks times servers) words) n) p
-    → r ≡ put-rows 0 (word-rows (asks times servers) words count m n) o
-unfolding word-rows
-put-both times servers words m n count next o p r a b c =
-    let holds = word-holds-times times [] servers words n count in
-    put-next 0 (word-holds (asks times servers) words n count) (transfers (asks times servers) m (word-source (asks times servers) words) n) o next
-    (next + length (transfers (asks times servers) m (word-source (asks times servers) words) n)) p r (omega (arith, ap length holds), b ∙ ap (λ (rows : List Row). put-rows 0 rows o) holds) refl c .1
+module _ (times servers words : List ℕ) (m : ℕ → Mark) (n count next last : ℕ) (o p r : List ℕ)
+    (a : next ≡ length (word-holds (asks times []) words n count))
+    (b : p ≡ put-rows 0 (word-holds (asks times []) words n count) o)
+    (c : last ≡ next + length (transfers (asks times servers) m (word-source (asks times servers) words) n))
+    (d : r ≡ put-rows next (transfers (asks times servers) m (word-source (asks times servers) words) n) p) where
+  abbrev held : List Row
+  held = word-holds (asks times servers) words n count
+
+  abbrev sent : List Row
+  sent = transfers (asks times servers) m (word-source (asks times servers) words) n
+
+  both-put : Put 0 (held ++ sent) o last r
+  both-put =
+      let same = word-holds-times times [] servers words n count in
+      put-next 0 held sent o next last p r (omega (arith, ap length same), b ∙ ap (λ (rows : List Row). put-rows 0 rows o) same) c d
+
+  -- then the uploads
+  pub put-parts : (s : List ℕ) → s ≡ put-rows last (uploads (asks times servers) m n) r → s ≡ put-rows 0 (word-rows (asks times servers) words count m n) o
+  unfolding word-rows
+  put-parts s e =
+      let loaded = uploads (asks times servers) m n in
+      put-next 0 (held ++ sent) loaded o last (last + length loaded) r s both-put refl e .1
+      ∙ ap (λ (rows : List Row). put-rows 0 rows o) (append-assoc held sent loaded)
+
+  -- where those are all rows, there is no upload
+  pub put-sent : last ≡ length (word-rows (asks times servers) words count m n) → r ≡ put-rows 0 (word-rows (asks times servers) words count m n) o
+  unfolding word-rows put-rows
+  put-sent e =
+      let loaded = uploads (asks times servers) m n in
+      let z : length loaded ≡ 0 =
+      omega (arith, both-put .0, length-append held sent, length-append held (sent ++ loaded), length-append sent loaded) in
+      put-parts r (ap (λ (rows : List Row). put-rows last rows r) (sym (none loaded z)))

@@ -6,7 +6,7 @@ use Prim.Native.Nat.{ℕ, suc, _+_, _*_, _≤_}
 use lib.ListN.{length, take, drop, set, length-append, length-take, take-append-drop}
 use lib.Seq.{take-at, drop-at, drop-drop, sets-eq}
 use Rattle.base.specs.Lists.{splice, splice-fits, splice-length}
-use Rattle.model.specs.Schedule.{Row, hold, move, transfer}
+use Rattle.model.specs.Schedule.{Row, hold, move, transfer, upload}
 use Rattle.model.specs.RowForm.{numbers, flat}
 
 -- the rows put in from row k on
@@ -19,6 +19,7 @@ numbers-length : (r : Row) → length (numbers r) ≡ 4
 unfolding numbers
 numbers-length (hold x a b) = refl
 numbers-length (move (transfer y x τ)) = refl
+numbers-length (move (upload x τ)) = refl
 
 -- the length stays
 pub put-rows-length : (k : ℕ) (rows : List Row) (o : List ℕ) → length (put-rows k rows o) ≡ length o

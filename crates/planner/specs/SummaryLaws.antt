@@ -1,38 +1,67 @@
 -- What a loaded log tells: its verdict, and lists that are ready for the table.
-use mathlib.Core.List.{List}
+use mathlib.Core.List.{List, _++_}
+use mathlib.Core.Option.{Option}
 use mathlib.Core.Path.{_≡_, refl, ap, ap₂, _∙_}
 use native.Mathlib.Omega.{arith}
 use Prim.Native.Nat.{ℕ}
 use Rattle.base.specs.Lent.{lent}
+use Rattle.base.specs.Refusals.{Condition, first, otherwise}
+use Rattle.base.specs.RefusalLaws.{first-append, otherwise-assoc, otherwise-passed}
 use Rattle.base.specs.declared.Refusal.{Refusal}
 use Rattle.base.specs.declared.Verdict.{Verdict}
 use Rattle.base.specs.declared.Verdict.the-variants.{Passed, Refused}
 use Rattle.prices.specs.Tariff.{Tariff}
 use Rattle.prices.specs.PriceLaws.{Priced}
+use Rattle.prices.specs.Uploads.{upload-conditions}
 use Rattle.log.specs.Fields.{server-count, request-count}
-use Rattle.log.specs.Conditions.{verdict-of, Accepted}
+use Rattle.log.specs.Conditions.{log-conditions, verdict-of, Accepted}
 use Rattle.model.specs.Requests.{Within}
-use Rattle.model.specs.LogRequests.{requests-in}
+use Rattle.model.specs.LogRequests.{requests-in, prices-in, rates-in}
+use Rattle.model.specs.Rates.{Rates}
 use Rattle.model.specs.LogRequestLaws.{log-within}
 use Rattle.planner.specs.declared.requests.Summary.{Summary}
 use Rattle.planner.specs.declared.requests.Loaded.{Loaded}
 use Rattle.planner.specs.declared.requests.Loaded.the-variants as loaded′
 use Rattle.planner.specs.Asked.{asks}
+use Rattle.planner.specs.Fees.{rated}
+use Rattle.planner.specs.FeeLaws.{fees-rated}
 use Rattle.planner.specs.Fits.{Ready}
-use Rattle.planner.specs.Loading.{seconds-with-home, servers-with-home, links, summary-of, loaded}
+use Rattle.planner.specs.Loading.{seconds-with-home, servers-with-home, links, offer-verdict, summary-of, loaded}
 use Rattle.planner.specs.LoadedLaws.{lent-requests, lent-ready}
 
--- a log that is loaded is accepted
-pub loaded-log : (v : Verdict) (t : Tariff) (log : List ℕ) (x : Loaded) (s : Summary) → x ≡ loaded v t log → x ≡ loaded′.Log s → (v ≡ Passed) × (s ≡ summary-of t log)
+-- the conditions of a call with an upload price: those before its own, and its own
+pub offer-parts : (t : Tariff) (u : Option ℕ) (log : List ℕ) (own : List Condition)
+    → otherwise (t .judged) (first (log-conditions (t .table) log ++ (upload-conditions u ++ own))) ≡ otherwise (offer-verdict t u log) (first own)
+unfolding offer-verdict verdict-of
+offer-parts t u log own =
+    let logs = first (log-conditions (t .table) log) in
+    let offered = first (upload-conditions u) in
+    ap (otherwise (t .judged)) (first-append (log-conditions (t .table) log) (upload-conditions u ++ own) ∙ ap (otherwise logs) (first-append (upload-conditions u) own))
+    ∙ otherwise-assoc (t .judged) logs (otherwise offered (first own))
+    ∙ otherwise-assoc (otherwise (t .judged) logs) offered (first own)
+
+-- a log that is loaded passed
+pub loaded-log : (v : Verdict) (s₀ : Summary) (x : Loaded) (s : Summary) → x ≡ loaded v s₀ → x ≡ loaded′.Log s → (v ≡ Passed) × (s ≡ s₀)
 unfolding loaded
-loaded-log Passed t log x s e f = (refl, cc)
-loaded-log (Refused r) t log x s e f = absurd (let z : _≡_ {A = ℕ} 0 1 = cc in omega arith)
+loaded-log Passed s₀ x s e f = (refl, cc)
+loaded-log (Refused r) s₀ x s e f = absurd (let z : _≡_ {A = ℕ} 0 1 = cc in omega arith)
 
 -- one that is not is refused
-pub loaded-refused : (v : Verdict) (t : Tariff) (log : List ℕ) (x : Loaded) (r : Refusal) → x ≡ loaded v t log → x ≡ loaded′.Refused r → v ≡ Refused r
+pub loaded-refused : (v : Verdict) (s₀ : Summary) (x : Loaded) (r : Refusal) → x ≡ loaded v s₀ → x ≡ loaded′.Refused r → v ≡ Refused r
 unfolding loaded
-loaded-refused Passed t log x r e f = absurd (let z : _≡_ {A = ℕ} 0 1 = cc in omega arith)
-loaded-refused (Refused r′) t log x r e f = cc
+loaded-refused Passed s₀ x r e f = absurd (let z : _≡_ {A = ℕ} 0 1 = cc in omega arith)
+loaded-refused (Refused r′) s₀ x r e f = cc
+
+-- where both passed, the log is accepted and its upload price too
+pub offer-passed : (t : Tariff) (u : Option ℕ) (log : List ℕ) → offer-verdict t u log ≡ Passed → Accepted t log × (first (upload-conditions u) ≡ Passed)
+unfolding offer-verdict Accepted
+offer-passed t u log e = otherwise-passed (verdict-of t log) (first (upload-conditions u)) e
+
+-- what its plan is billed by
+pub summary-rates : (t : Tariff) (u : Option ℕ) (log : List ℕ) (s : Summary) → first (upload-conditions u) ≡ Passed → s ≡ summary-of t u log
+    → rated (s .fees) ≡ rates-in t u log
+unfolding summary-of
+summary-rates t u log s offer e = ap (λ (x : Summary). rated (x .fees)) e ∙ fees-rated (prices-in t log) u offer
 
 module _ (t : Tariff) (log : List ℕ) (ok : Accepted t log) (o₁ o₂ x y : List ℕ)
     (e : x ≡ lent (verdict-of t log) (seconds-with-home log) o₁) (f : y ≡ lent (verdict-of t log) (servers-with-home log) o₂) where
@@ -49,8 +78,9 @@ module _ (t : Tariff) (log : List ℕ) (ok : Accepted t log) (o₁ o₂ x y : Li
   setup-within = rw setup-requests (log-within t log ok)
 
   -- and are ready
-  pub summary-ready : Priced t → (o₃ z : List ℕ) (s : Summary) → z ≡ lent (verdict-of t log) (links (servers-with-home log) (request-count log)) o₃ → s ≡ summary-of t log
-      → Ready (s .prices) x y z (s .requests)
+  pub summary-ready : Priced t → (u : Option ℕ) → first (upload-conditions u) ≡ Passed → (p : Rates) → p ≡ rates-in t u log → (o₃ z : List ℕ) (s : Summary)
+      → z ≡ lent (verdict-of t log) (links (servers-with-home log) (request-count log)) o₃ → s ≡ summary-of t u log → Ready p x y z (s .requests)
   unfolding summary-of
-  summary-ready p o₃ z s g h =
-      rw (h, e, f, g, passed (seconds-with-home log) o₁, passed (servers-with-home log) o₂, passed (links (servers-with-home log) (request-count log)) o₃) (lent-ready t log ok o₁ o₂ o₃ p)
+  summary-ready priced u offer p i o₃ z s g h =
+      rw (i, h, e, f, g, passed (seconds-with-home log) o₁, passed (servers-with-home log) o₂, passed (links (servers-with-home log) (request-count log)) o₃)
+      (lent-ready t log ok o₁ o₂ o₃ priced u offer)

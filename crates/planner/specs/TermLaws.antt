@@ -1,16 +1,18 @@
 -- The table's steps are what the code makes of a request's terms.
+use mathlib.Core.Bool.{Bool, true, false}
 use mathlib.Core.Option.{Option, none, some}
 use mathlib.Core.Path.{_≡_, refl, ap, _∙_}
 use native.Mathlib.Omega.{arith}
 use Prim.Native.Nat.{ℕ, suc, _+_, _^_, _≤_, _<_}
 use borrow.Author.Tests.{ne-eqb}
-use Rattle.prices.specs.declared.Prices.{Prices}
+use Rattle.model.specs.Rates.{Rates, or-zero}
 use Rattle.model.specs.Requests.{Requests, previous}
 use Rattle.model.specs.RequestLaws.{previous-some}
 use Rattle.model.specs.Marking.{gap}
+use Rattle.model.specs.Table.{cheaper, open-price}
 use Rattle.model.specs.TableRows.{row, next-D, next-C}
 use Rattle.planner.specs.declared.table.Terms.{Terms}
-use Rattle.planner.specs.Terms.{index, span-from, terms-of, cheaper}
+use Rattle.planner.specs.Terms.{index, span-from, terms-of, bare-by, lesser}
 use Rattle.planner.specs.Fits.{Fits, span-small}
 
 -- what the code's index of a previous request tells
@@ -26,15 +28,22 @@ linked-view q i x e = go (previous q i) refl
     go none z = alone z (e ∙ ap index z)
     go (some j) z = after j z (previous-some q i j z .below) (e ∙ ap index z)
 
-module _ (p : Prices) (q : Requests) where
+-- what not keeping adds is small where S and the upload price are
+pub cheaper-under : (u : Option ℕ) (b : Bool) (s m : ℕ) → s < m → or-zero u < m → cheaper u b s < m
+unfolding cheaper or-zero
+cheaper-under none b s m h l = h
+cheaper-under (some y) true s m h l = omega arith
+cheaper-under (some y) false s m h l = l
+
+module _ (p : Rates) (q : Requests) where
   -- the next C
   pub cost-terms : (i d v : ℕ) → i < 65535
-      → next-C p q i d v ≡ cheaper (terms-of p q i) (p .transfer + terms-of p q i .gap + v) d
-  unfolding next-C terms-of cheaper index span-from
+      → next-C p q i d v ≡ lesser (terms-of p q i) (bare-by p (terms-of p q i) + v) d
+  unfolding next-C open-price terms-of bare-by lesser index span-from
   cost-terms i d v h = go (previous q (suc i)) refl
     where
       go : (o : Option ℕ) → previous q (suc i) ≡ o
-          → next-C p q i d v ≡ cheaper (terms-of p q i) (p .transfer + terms-of p q i .gap + v) d
+          → next-C p q i d v ≡ lesser (terms-of p q i) (bare-by p (terms-of p q i) + v) d
       go none z = rw (z, next-C, terms-of)
       go (some j) z = rw (z, next-C, terms-of, ne-eqb j 65535 (λ e. omega (arith, previous-some q (suc i) j z .below)))
 

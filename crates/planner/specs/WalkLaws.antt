@@ -6,7 +6,7 @@ use Prim.Native.Nat.{ℕ, zero, suc, _<_}
 use lib.ListN.{length, drop, set}
 use lib.Seq.{append-snoc}
 use Rattle.base.specs.Lists.{build}
-use Rattle.prices.specs.declared.Prices.{Prices}
+use Rattle.model.specs.Rates.{Rates}
 use Rattle.model.specs.Requests.{Requests}
 use Rattle.model.specs.Marking.{Mark}
 use Rattle.model.specs.Plan.{plan}
@@ -33,7 +33,7 @@ unfolding listed build
 listed-letters m zero = refl
 listed-letters m (suc n) = map-snoc letter (listed m n) (m (suc n)) ∙ ap (λ (r : List ℕ). r ++ (letter (m (suc n)) ∷ [])) (listed-letters m n)
 
-module _ (p : Prices) (q : Requests) where
+module _ (p : Rates) (q : Requests) where
   module _ (D : ℕ → ℕ) (k c v : ℕ) where
     -- one step back: its letter is put before those that stand
     walked-back : (L : List ℕ) (t : Turn) → k < length L → t ≡ turned p q k c (D (suc k)) v
@@ -42,7 +42,7 @@ module _ (p : Prices) (q : Requests) where
     walked-back L t h e =
         let o = turn p q k c (D (suc k)) v in
         let w = walk p q D k (turn-c o k c) (turn-v p q o k c v) in
-        rw (e, drop-set L k (letter (turn-mark o)) h, map-snoc letter w (turn-mark o)) (sym (append-snoc (map letter w) (letter (turn-mark o)) (drop (suc k) L)))
+        rw (e, drop-set L k (letter (turn-mark p q o k c)) h, map-snoc letter w (turn-mark p q o k c)) (sym (append-snoc (map letter w) (letter (turn-mark p q o k c)) (drop (suc k) L)))
 
     -- and together they stay
     pub walked-step : (i : ℕ) (L X : List ℕ) (t : Turn) → suc k ≡ i → k < length L → t ≡ turned p q k c (D (suc k)) v

@@ -7,8 +7,8 @@ use Rattle.base.specs.Choice.{pick}
 use Rattle.base.specs.Sets.{has}
 use Rattle.base.specs.Nearest.{nearest}
 use Rattle.model.specs.Requests.{Requests}
-use Rattle.model.specs.Schedule.{Row, hold, move, transfer}
-use Rattle.model.specs.Marking.{Mark, keeps, begins-run, run-end, hold-rows, transfers}
+use Rattle.model.specs.Schedule.{Row, hold, move, transfer, upload}
+use Rattle.model.specs.Marking.{Mark, sends, loads, begins-run, run-end, hold-rows, transfers, uploads}
 
 -- server y holds over gap k
 unfoldable pub holder-at : List ℕ → ℕ → ℕ → Bool
@@ -29,8 +29,12 @@ word-source q words i = nearest 64 (has (getD words i 0)) (q .server i)
 
 -- the transfer to request i + 1, if it is S
 unfoldable pub new-transfer : Requests → (ℕ → Mark) → (ℕ → ℕ) → ℕ → List Row
-new-transfer q m from i = pick (keeps (m (suc i))) [] (move (transfer (from (suc i)) (q .server (suc i)) (q .time (suc i))) ∷ [])
+new-transfer q m from i = pick (sends (m (suc i))) (move (transfer (from (suc i)) (q .server (suc i)) (q .time (suc i))) ∷ []) []
 
--- the rows: the holds, then the transfers
+-- the upload to it, if it is U
+unfoldable pub new-upload : Requests → (ℕ → Mark) → ℕ → List Row
+new-upload q m i = pick (loads (m (suc i))) (move (upload (q .server (suc i)) (q .time (suc i))) ∷ []) []
+
+-- the rows: the holds, the transfers, the uploads
 unfoldable pub word-rows : Requests → List ℕ → ℕ → (ℕ → Mark) → ℕ → List Row
-word-rows q words count m n = word-holds q words n count ++ transfers q m (word-source q words) n
+word-rows q words count m n = word-holds q words n count ++ (transfers q m (word-source q words) n ++ uploads q m n)

@@ -12,6 +12,7 @@ ghost use Rattle.planner.specs.HolderWords.{kept-step, or-server, gap-wo
 ghost use Rattle.planner.specs.RowCount.{row-count};
 use crate::PLACES;
 use crate::reads::kept;
+use crate::reads::loaded;
 use crate::reads::server;
 use crate::reads::word;
 use base::sets::cut;
@@ -30,14 +31,17 @@ fn kept_step(w: u64, x: u16, kept: bool) -> u64
     rest
 }
 
-// The servers of a word, or one server where it has none.
-fn or_server(w: u64, x: u16) -> u64
-    ensures { λ r. ⌜ r ≡ or-server w x ⌝ }
+// The servers of a word, or one server where it has none and the gap is not before a U.
+fn or_server(w: u64, x: u16, loaded: bool) -> u64
+    ensures { λ r. ⌜ r ≡ or-server w x loaded ⌝ }
 {
-    if w == 0 {
-        return put(0, x);
+    if w != 0 {
+        return w;
     }
-    w
+    if loaded {
+        return 0;
+    }
+    put(0, x)
 }
 
 // The number of requests, at most as many as a log can have.
@@ -61,7 +65,7 @@ pub fn holders(servers: &[u16], letters: &[u8], n: u16) -> [u64; PLACES]
     while 0 < i {
         let before = i - 1;
         w = kept_step(w, server(servers, i), kept(letters, before));
-        words[i] = or_server(w, server(servers, before));
+        words[i] = or_server(w, server(servers, before), loaded(letters, before));
         i = before;
     }
     words
@@ -81,8 +85,8 @@ fn begun(w: u64, before: u64) -> u32
     copies(w) - copies(w & before)
 }
 
-// The transfer to a request, 1 where it is S.
-fn sent(kept: bool) -> u32
+// The transfer or upload to a request, 1 where it is not K.
+fn brought(kept: bool) -> u32
     ensures { λ r. ⌜ (r ≡ pick kept 0 1) × (r ≤ 1) ⌝ }
 {
     if kept {
@@ -100,7 +104,7 @@ pub fn row_count(words: &[u64], letters: &[u8], n: u16) -> u32
     let end = size_from_u16(n);
     while k < end {
         let next = k + 1;
-        rows += begun(word(words, next), word(words, k)) + sent(kept(letters, k));
+        rows += begun(word(words, next), word(words, k)) + brought(kept(letters, k));
         k = next;
     }
     rows

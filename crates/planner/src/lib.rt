@@ -10,9 +10,13 @@ mod walk;
 
 use base::Refusal;
 pub use costs::least;
+pub use costs::least_uploads;
+pub use costs::least_uploads_with;
 pub use costs::least_with;
 use log::MOST_REQUESTS;
 pub use planning::plan;
+pub use planning::plan_uploads;
+pub use planning::plan_uploads_with;
 pub use planning::plan_with;
 
 // The plan's cost and the number of its rows, or why there is no plan.

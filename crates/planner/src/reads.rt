@@ -2,7 +2,7 @@
 ghost use mathlib.Core.Path.{_≡_};
 ghost use Prim.Native.Nat.{suc};
 ghost use lib.ListN.{getD};
-ghost use Rattle.model.specs.Marking.{keeps};
+ghost use Rattle.model.specs.Marking.{keeps, sends, loads};
 ghost use Rattle.planner.specs.HolderWords.{marking};
 use base::bytes::at;
 
@@ -41,4 +41,22 @@ pub fn kept(letters: &[u8], i: usize) -> bool
     ensures { λ r. ⌜ r ≡ keeps (marking (now (letters .entry)) (suc i)) ⌝ }
 {
     at(letters, i) == 75
+}
+
+// It is S.
+pub fn sent(letters: &[u8], i: usize) -> bool
+    ensures { λ r. ⌜ r ≡ sends (marking (now (letters .entry)) (suc i)) ⌝ }
+{
+    let letter = at(letters, i);
+    if letter == 75 {
+        return false;
+    }
+    letter != 85
+}
+
+// It is U.
+pub fn loaded(letters: &[u8], i: usize) -> bool
+    ensures { λ r. ⌜ r ≡ loads (marking (now (letters .entry)) (suc i)) ⌝ }
+{
+    at(letters, i) == 85
 }

@@ -7,13 +7,15 @@ ghost use Rattle.base.specs.declared.Verdict.the-variants.{Passed};
 ghost use Rattle.base.specs.Lent.{lent};
 ghost use Rattle.prices.specs.PriceFile.{table-in};
 ghost use Rattle.prices.specs.Tariff.{tariff};
+ghost use Rattle.prices.specs.Uploads.{if-given};
 ghost use Rattle.log.specs.Fields.{request-count, seconds-of, servers-of};
 ghost use Rattle.log.specs.Conditions.{verdict-of};
 ghost use Rattle.log.specs.Answers.{decoded};
 ghost use Rattle.model.specs.TableLists.{at};
 ghost use Rattle.log.specs.Sizes.{most-requests};
 ghost use Rattle.planner.specs.Sizes.{places};
-ghost use Rattle.planner.specs.Loading.{seconds-with-home, servers-with-home, links, loaded};
+ghost use Rattle.planner.specs.Fees.{fees-of};
+ghost use Rattle.planner.specs.Loading.{seconds-with-home, servers-with-home, links, offer-verdict, summary-of, loaded};
 use crate::NONE;
 use crate::PLACES;
 use base::Refusal;
@@ -26,15 +28,23 @@ use log::ReadOutcome;
 use log::read_by;
 use prices::Prices;
 use prices::of_class;
+use prices::upload_fault;
 
-// What an accepted log says beside its requests: how many they are, how many servers there are, and the prices.
+// What a plan is billed by: upload is 0 where no upload price is given.
+pub struct Fees {
+    pub hold: u32,
+    pub transfer: u32,
+    pub upload: u32,
+}
+
+// What an accepted log says beside its requests: how many they are, how many servers there are, and what its plan is billed by.
 pub struct Summary {
     pub requests: u16,
     pub server_count: u8,
-    pub prices: Prices,
+    pub fees: Fees,
 }
 
-// That, or why the log is refused.
+// That, or why the log or the upload price is refused.
 pub enum Loaded {
     Log(Summary),
     Refused(Refusal),
@@ -82,20 +92,51 @@ fn read_requests(
     read_by(v, prices, log, &mut seconds[1..], &mut servers[1..])
 }
 
-// The same: the seconds and servers of its requests, the previous request of each, and what else it says.
+// What a plan is billed by, from a class's prices and an upload price, if one is given.
+fn billed(prices: Prices, given: bool, upload: u32) -> Fees
+    ensures { λ r. ⌜ r ≡ fees-of prices (if-given given upload) ⌝ }
+{
+    if given {
+        return Fees {
+            hold: prices.hold,
+            transfer: prices.transfer,
+            upload,
+        };
+    }
+    Fees {
+        hold: prices.hold,
+        transfer: prices.transfer,
+        upload: 0,
+    }
+}
+
+// What an accepted log says, unless its upload price is refused.
+fn offered(fault: Verdict, summary: Summary) -> Loaded
+    ensures { λ r. ⌜ r ≡ loaded fault summary ⌝ }
+{
+    match fault {
+        Verdict::Refused(r) => Loaded::Refused(r),
+        Verdict::Passed => Loaded::Log(summary),
+    }
+}
+
+// The same: the seconds and servers of its requests, the previous request of each, and what else it says; 44 comes right after its conditions.
 pub fn load(
     v: Verdict,
     prices: &[u8],
+    given: bool,
+    upload: u32,
     log: &[u8],
     seconds: &mut [u32; PLACES],
     servers: &mut [u16; PLACES],
     previous: &mut [u16; PLACES],
 ) -> Loaded
-    ensures { λ r. ⌜ r ≡ loaded (verdict-of (tariff v (table-in (now (prices .entry)))) (now (log .entry))) (tariff v (table-in (now (prices .entry)))) (now (log .entry)) ⌝ }
+    ensures { λ r. ⌜ r ≡ loaded (offer-verdict (tariff v (table-in (now (prices .entry)))) (if-given given upload) (now (log .entry))) (summary-of (tariff v (table-in (now (prices .entry)))) (if-given given upload) (now (log .entry))) ⌝ }
     ensures { λ _. ⌜ now (seconds .exit) ≡ lent (verdict-of (tariff v (table-in (now (prices .entry)))) (now (log .entry))) (seconds-with-home (now (log .entry))) (now (seconds .entry)) ⌝ }
     ensures { λ _. ⌜ now (servers .exit) ≡ lent (verdict-of (tariff v (table-in (now (prices .entry)))) (now (log .entry))) (servers-with-home (now (log .entry))) (now (servers .entry)) ⌝ }
     ensures { λ _. ⌜ now (previous .exit) ≡ lent (verdict-of (tariff v (table-in (now (prices .entry)))) (now (log .entry))) (links (servers-with-home (now (log .entry))) (request-count (now (log .entry)))) (now (previous .entry)) ⌝ }
 {
+    let fault = upload_fault(given, upload);
     let decoded = read_requests(v, prices, log, seconds, servers);
     let outcome = decoded.outcome;
     let header = decoded.header;
@@ -105,11 +146,15 @@ pub fn load(
             seconds[0] = 0;
             servers[0] = u16_from_u8(header.home);
             link(servers, n, previous);
-            Loaded::Log(Summary {
-                requests: n,
-                server_count: header.server_count,
-                prices: of_class(prices, header.class),
-            })
+            let fees = billed(of_class(prices, header.class), given, upload);
+            offered(
+                fault,
+                Summary {
+                    requests: n,
+                    server_count: header.server_count,
+                    fees,
+                },
+            )
         }
     }
 }

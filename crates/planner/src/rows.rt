@@ -4,13 +4,14 @@ ghost use mathlib.Core.List.{[], _∷_};
 ghost use Prim.Native.Nat.{_+_, _-_, _*_, _<_, _≤_};
 ghost use lib.ListN.{length};
 ghost use Rattle.base.specs.Lists.{splice};
-ghost use Rattle.model.specs.Marking.{begins-run, run-end, hold-rows, transfers};
+ghost use Rattle.model.specs.Marking.{begins-run, run-end, hold-rows, transfers, uploads};
 ghost use Rattle.planner.specs.HolderWords.{marking};
 ghost use Rattle.planner.specs.RowWriting.{put-rows};
 ghost use Rattle.planner.specs.Asked.{asks};
-ghost use Rattle.planner.specs.WordRows.{holder-at, new-hold, word-holds, word-source, new-transfer, word-rows};
-use crate::reads::kept;
+ghost use Rattle.planner.specs.WordRows.{holder-at, new-hold, word-holds, word-source, new-transfer, new-upload, word-rows};
+use crate::reads::loaded;
 use crate::reads::second;
+use crate::reads::sent;
 use crate::reads::server;
 use crate::reads::word;
 use base::sets::has;
@@ -138,7 +139,7 @@ fn put_transfer(
     requires { ⌜ (k < 65536) × (at < 2147483648) ⌝ }
     ensures { λ r. ⌜ (r ≡ at + length (new-transfer (asks (now (times .entry)) (now (servers .entry))) (marking (now (letters .entry))) (word-source (asks (now (times .entry)) (now (servers .entry))) (now (words .entry))) k)) × (r ≤ at + 1) × (now (out .exit) ≡ put-rows at (new-transfer (asks (now (times .entry)) (now (servers .entry))) (marking (now (letters .entry))) (word-source (asks (now (times .entry)) (now (servers .entry))) (now (words .entry))) k) (now (out .entry))) ⌝ }
 {
-    if kept(letters, k) {
+    if !sent(letters, k) {
         return at;
     }
     let i = k + 1;
@@ -154,7 +155,7 @@ fn put_transfer(
     at + 1
 }
 
-// The transfers, from row `at` on.
+// The transfers, from row `at` on; the number of the next row.
 fn put_transfers(
     times: &[u32],
     servers: &[u16],
@@ -163,9 +164,9 @@ fn put_transfers(
     n: usize,
     at: u32,
     out: &mut [u32],
-)
+) -> u32
     requires { ⌜ (n < 65536) × (at < 1073741824) ⌝ }
-    ensures { λ _. ⌜ now (out .exit) ≡ put-rows at (transfers (asks (now (times .entry)) (now (servers .entry))) (marking (now (letters .entry))) (word-source (asks (now (times .entry)) (now (servers .entry))) (now (words .entry))) n) (now (out .entry)) ⌝ }
+    ensures { λ r. ⌜ (r ≡ at + length (transfers (asks (now (times .entry)) (now (servers .entry))) (marking (now (letters .entry))) (word-source (asks (now (times .entry)) (now (servers .entry))) (now (words .entry))) n)) × (r ≤ at + n) × (now (out .exit) ≡ put-rows at (transfers (asks (now (times .entry)) (now (servers .entry))) (marking (now (letters .entry))) (word-source (asks (now (times .entry)) (now (servers .entry))) (now (words .entry))) n) (now (out .entry))) ⌝ }
 {
     let mut next = at;
     let mut k: usize = 0;
@@ -173,21 +174,63 @@ fn put_transfers(
         next = put_transfer(times, servers, words, letters, k, next, out);
         k += 1;
     }
+    next
 }
 
-// The rows of n requests, into the front of a list.
-pub fn put_all(
+// The upload to request k + 1, if it is U, as row `at`; the number of the next row.
+fn put_upload(
+    times: &[u32],
+    servers: &[u16],
+    letters: &[u8],
+    k: usize,
+    at: u32,
+    out: &mut [u32],
+) -> u32
+    requires { ⌜ (k < 65536) × (at < 2147483648) ⌝ }
+    ensures { λ r. ⌜ (r ≡ at + length (new-upload (asks (now (times .entry)) (now (servers .entry))) (marking (now (letters .entry))) k)) × (r ≤ at + 1) × (now (out .exit) ≡ put-rows at (new-upload (asks (now (times .entry)) (now (servers .entry))) (marking (now (letters .entry))) k) (now (out .entry))) ⌝ }
+{
+    if !loaded(letters, k) {
+        return at;
+    }
+    let i = k + 1;
+    let target = u32_from_u16(server(servers, i));
+    let moment = second(times, i);
+    put_row(out, at, 2, target, moment, 0);
+    at + 1
+}
+
+// The uploads, from row `at` on.
+fn put_uploads(times: &[u32], servers: &[u16], letters: &[u8], n: usize, at: u32, out: &mut [u32])
+    requires { ⌜ (n < 65536) × (at < 1073807360) ⌝ }
+    ensures { λ _. ⌜ now (out .exit) ≡ put-rows at (uploads (asks (now (times .entry)) (now (servers .entry))) (marking (now (letters .entry))) n) (now (out .entry)) ⌝ }
+{
+    let mut next = at;
+    let mut k: usize = 0;
+    while k < n {
+        next = put_upload(times, servers, letters, k, next, out);
+        k += 1;
+    }
+}
+
+// The rows of n requests, `found` in all, into the front of a list.
+pub(crate) fn put_all(
     times: &[u32],
     servers: &[u16],
     words: &[u64],
     letters: &[u8],
     n: u16,
     count: u8,
+    found: u32,
     out: &mut [u32],
 )
+    requires { ⌜ found ≡ length (word-rows (asks (now times) (now servers)) (now words) count (marking (now letters)) n) ⌝ }
     ensures { λ _. ⌜ now (out .exit) ≡ put-rows 0 (word-rows (asks (now (times .entry)) (now (servers .entry))) (now (words .entry)) count (marking (now (letters .entry))) n) (now (out .entry)) ⌝ }
 {
     let end = size_from_u16(n);
     let next = put_holds(times, words, end, u16_from_u8(count), out);
-    put_transfers(times, servers, words, letters, end, next, out);
+    let next = put_transfers(times, servers, words, letters, end, next, out);
+    if next == found {
+        return;
+    }
+    put_uploads(times, servers, letters, end, next, out);
 }

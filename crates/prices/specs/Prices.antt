@@ -29,8 +29,12 @@ unfoldable pub prices-of : List Prices → ℕ → Prices
 prices-of table class = getD table class (priced 0 0)
 
 -- a price is 0 or above 1,000,000
+abbrev pub price-outside : ℕ → Bool
+price-outside x = either (eqb x 0) (ltb 1000000 x)
+
+-- one of the two is
 unfoldable pub outside : Prices → Bool
-outside p = either (either (eqb (p .hold) 0) (ltb 1000000 (p .hold))) (either (eqb (p .transfer) 0) (ltb 1000000 (p .transfer)))
+outside p = either (price-outside (p .hold)) (price-outside (p .transfer))
 
 -- both prices are from 1 to 1,000,000
 pub record In-range (p : Prices) : Type 0 where

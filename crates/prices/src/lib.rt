@@ -5,8 +5,12 @@ ghost use mathlib.Core.Path.{_≡_};
 ghost use Prim.Native.Nat.{_*_};
 ghost use lib.Dec.{ltb, eqb};
 ghost use Rattle.base.specs.Choice.{either};
-ghost use Rattle.prices.specs.Prices.{outside, window};
+ghost use Rattle.base.specs.Refusals.{first};
+ghost use Rattle.prices.specs.Prices.{price-outside, outside, window};
 ghost use Rattle.prices.specs.Offer.{built-in-offer};
+ghost use Rattle.prices.specs.Uploads.{upload-conditions, if-given};
+use base::Verdict;
+use base::refusals::or_else;
 use base::widths::u64_from_u32;
 pub use file::BUILT_IN_LENGTH;
 pub use file::built_in;
@@ -36,7 +40,7 @@ pub fn ended(class: u8) -> bool
 
 // A price is 0 or above 1,000,000.
 fn price_outside(price: u32) -> bool
-    ensures { λ r. ⌜ r ≡ either (eqb price 0) (ltb 1000000 price) ⌝ }
+    ensures { λ r. ⌜ r ≡ price-outside price ⌝ }
 {
     if price == 0 {
         return true;
@@ -52,6 +56,16 @@ pub fn outside(prices: Prices) -> bool
         return true;
     }
     price_outside(prices.transfer)
+}
+
+// 44: an upload price is given and out of range.
+pub fn upload_fault(given: bool, upload: u32) -> Verdict
+    ensures { λ r. ⌜ r ≡ first (upload-conditions (if-given given upload)) ⌝ }
+{
+    if given {
+        return or_else(Verdict::Passed, price_outside(upload), 44, 0);
+    }
+    Verdict::Passed
 }
 
 // The window: the transfer price divided by the hold price, rounded down; 0 where holding is free.

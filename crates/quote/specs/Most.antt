@@ -11,13 +11,15 @@ use Rattle.model.specs.Bounds.{owns-most}
 use Rattle.model.specs.LogRequests.{requests-in}
 use Rattle.model.specs.LogRequestLaws.{sound-seconds}
 use Rattle.model.specs.Quote.{sum-part, hold-part}
+use Rattle.model.specs.Rates.{rates, plain}
 
 module _ (p : Prices) (range : In-range p) (log : List ℕ) (sound : Sound log) where
   -- a transfer of 1,000,000 for each of 2,048 requests
   pub sum-most : (k : ℕ) → k ≤ request-count log → sum-part p (requests-in log) k ≤ 2048000000
+  unfolding rates
   sum-most k h =
       let n : k ≤ 2048 = omega (arith, sound .requests-most) in
-      omega (arith, owns-most p (requests-in log) k, mul-le-mul (range .transfer-most) n)
+      omega (arith, owns-most (plain p) (requests-in log) k, mul-le-mul (range .transfer-most) n)
 
   -- 1,000,000 for each of 4,000,000 seconds
   pub hold-most : hold-part p (requests-in log) (request-count log) ≤ 4000000000000

@@ -1,5 +1,6 @@
 -- The sheet of a log (01's 'The sheet'). Assumes nothing.
 use mathlib.Core.List.{List, [], _∷_, _++_}
+use mathlib.Core.Option.{none}
 use Prim.Native.Nat.{ℕ}
 use lib.ListN.{length}
 use Rattle.base.specs.Lent.{lent}
@@ -14,11 +15,11 @@ use Rattle.report.specs.Text.{Columns, columns, entry-of, sheet-text}
 
 -- seconds, servers, plan marks over the whole log, online marks, least and running costs of the requests so far
 unfoldable pub columns-of : Tariff → List ℕ → Columns
-columns-of t log = columns (seconds-of log) (servers-of log) (marks-of t log) (live-marks t log) (least-costs t log) (running-costs t log)
+columns-of t log = columns (seconds-of log) (servers-of log) (marks-of t none log) (live-marks t log) (least-costs t none log) (running-costs t log)
 
 -- the bytes of the sheet
 unfoldable pub sheet-of : Tariff → List ℕ → List ℕ
-sheet-of t log = sheet-text (entry-of (columns-of t log)) (request-count log) (length (planned-rows t log)) (closing-cost t log)
+sheet-of t log = sheet-text (entry-of (columns-of t log)) (request-count log) (length (planned-rows t none log)) (closing-cost t log)
 
 -- its conditions: the price file's, the log's, then 31 for what is lent
 unfoldable pub sheet-verdict : Tariff → List ℕ → ℕ → Verdict

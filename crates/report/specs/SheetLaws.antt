@@ -1,5 +1,6 @@
 -- The sheet of an accepted log: none of the calls that it is made of is refused, and zeros after their answers do not show.
 use mathlib.Core.List.{List, [], _∷_, _++_}
+use mathlib.Core.Option.{none}
 use mathlib.Core.Path.{_≡_, ap, _∙_}
 use Prim.Native.Nat.{ℕ, suc, _*_, _≤_}
 use native.Mathlib.Omega.{arith}
@@ -14,6 +15,7 @@ use Rattle.base.specs.declared.Verdict.the-variants.{Passed, Refused}
 use Rattle.log.specs.Sizes.{most-requests}
 use Rattle.prices.specs.PriceLaws.{Priced}
 use Rattle.prices.specs.Tariff.{Tariff}
+use Rattle.prices.specs.Uploads.{upload-conditions}
 use Rattle.log.specs.Fields.{id-of, request-count, server-count, seconds-of, servers-of}
 use Rattle.log.specs.Conditions.{Accepted, log-conditions, verdict-of}
 use Rattle.log.specs.AcceptedLaws.{accepted-sound}
@@ -41,7 +43,7 @@ unfolding verdict-of
 parts t log xs = ap (otherwise (t .judged)) (first-append (log-conditions (t .table) log) xs) ∙ otherwise-assoc (t .judged) (first (log-conditions (t .table) log)) (first xs)
 
 -- they decide after an accepted log
-passed-after : (t : Tariff) (log : List ℕ) (xs : _) → Accepted t log → otherwise (t .judged) (first (log-conditions (t .table) log ++ xs)) ≡ first xs
+pub passed-after : (t : Tariff) (log : List ℕ) (xs : _) → Accepted t log → otherwise (t .judged) (first (log-conditions (t .table) log ++ xs)) ≡ first xs
 unfolding Accepted
 passed-after t log xs a = parts t log xs ∙ ap (λ (v : Verdict). otherwise v (first xs)) a
 
@@ -59,23 +61,23 @@ sheet-accepted t log room a = passed-after t log (short (length (sheet-of t log)
 
 module _ (t : Tariff) (priced : Priced t) (log : List ℕ) (a : Accepted t log) where
   -- its least costs are found
-  pub least-passes : least-verdict t log places ≡ Passed
-  unfolding least-verdict first
+  pub least-passes : least-verdict t none log places ≡ Passed
+  unfolding least-verdict upload-conditions first
   least-passes = passed-after t log _ a ∙ rw (le-ltb places (suc (request-count log)) (omega (arith, accepted-sound t log a .requests-most)))
 
   -- its plan has at most two rows for each request
-  pub few-rows : length (planned-rows t log) ≤ 2 * request-count log
+  pub few-rows : length (planned-rows t none log) ≤ 2 * request-count log
   unfolding planned-rows plan-rows rows
   few-rows = rows-few (requests-in log) (server-count log) _ (request-count log) _ (log-within t log a)
 
   -- and is found
-  pub plan-passes : plan-verdict t log most-requests rows-room ≡ Passed
-  unfolding plan-verdict rows-of-plan first
+  pub plan-passes : plan-verdict t none log most-requests rows-room ≡ Passed
+  unfolding plan-verdict rows-of-plan upload-conditions first
   plan-passes =
       passed-after t log _ a
       ∙ rw (
         le-ltb most-requests (request-count log) (accepted-sound t log a .requests-most),
-        le-ltb rows-room (length (rows-of-plan t log)) (omega (arith, flat-length (planned-rows t log), few-rows, accepted-sound t log a .requests-most)),
+        le-ltb rows-room (length (rows-of-plan t none log)) (omega (arith, flat-length (planned-rows t none log), few-rows, accepted-sound t log a .requests-most)),
       )
 
   -- the online cache goes through its requests, read from lists that hold them
@@ -87,15 +89,15 @@ module _ (t : Tariff) (priced : Priced t) (log : List ℕ) (a : Accepted t log) 
 
 -- lists that hold what the calls answer make the sheet
 pub sheet-made : (t : Tariff) (log : List ℕ) (n rows closing : ℕ) (cache : Cache) (id seconds servers plan live least costs : List ℕ)
-    → n ≡ request-count log → rows ≡ length (planned-rows t log) → cache ≡ opened t log → id ≡ id-of log
-    → Alike seconds (seconds-of log) → Alike servers (servers-of log) → Alike plan (marks-of t log) → Alike least (least-costs t log)
+    → n ≡ request-count log → rows ≡ length (planned-rows t none log) → cache ≡ opened t log → id ≡ id-of log
+    → Alike seconds (seconds-of log) → Alike servers (servers-of log) → Alike plan (marks-of t none log) → Alike least (least-costs t none log)
     → Alike live (build n (live-mark cache id seconds servers)) → Alike costs (build n (live-cost cache id seconds servers))
     → closing ≡ closing-cost t log
     → sheet-text (entry-of (columns seconds servers plan live least costs)) n rows closing ≡ sheet-of t log
 unfolding sheet-of columns-of live-marks running-costs
 sheet-made t log n rows closing cache id seconds servers plan live least costs e f g w h k l m p q z =
     rw (e, f, z)
-    (sheet-alike (columns seconds servers plan live least costs) (columns-of t log) (request-count log) (length (planned-rows t log)) (closing-cost t log) h k l (λ i. rw (← marks) (p i)) m
+    (sheet-alike (columns seconds servers plan live least costs) (columns-of t log) (request-count log) (length (planned-rows t none log)) (closing-cost t log) h k l (λ i. rw (← marks) (p i)) m
     (λ i. rw (← amounts) (q i)))
   where
     marks : build n (live-mark cache id seconds servers) ≡ live-marks t log

@@ -1,15 +1,19 @@
 -- The sheet of an accepted log fits its room.
 use mathlib.Core.List.{List}
+use mathlib.Core.Option.{none}
+use mathlib.Core.Path.{refl}
 use Prim.Native.Nat.{ℕ, zero, suc, _*_, _^_, _≤_, _<_}
 use native.Mathlib.Omega.{arith}
 use lib.ListN.{getD, length}
 use Rattle.base.specs.Lists.{build-at}
+use Rattle.base.specs.Refusals.{first}
 use Rattle.prices.specs.PriceLaws.{Priced}
 use Rattle.prices.specs.Tariff.{Tariff}
+use Rattle.prices.specs.Uploads.{upload-conditions}
 use Rattle.log.specs.Fields.{id-of, request-count, seconds-of, servers-of}
 use Rattle.log.specs.Conditions.{Accepted}
 use Rattle.log.specs.AcceptedLaws.{accepted-sound}
-use Rattle.model.specs.LogRequests.{requests-in, prices-in}
+use Rattle.model.specs.LogRequests.{requests-in, rates-in}
 use Rattle.model.specs.Plan.{plan-cost}
 use Rattle.model.specs.PlanLaws.{plan-best}
 use Rattle.planner.specs.Answers.{planned-rows, least-costs}
@@ -28,11 +32,11 @@ use Rattle.report.specs.TextLaws.{entry-length, lines-longer, sheet-leng
 
 module _ (t : Tariff) (priced : Priced t) (log : List ℕ) (a : Accepted t log) where
   -- its costs have at most 20 digits
-  least-small : (k : ℕ) → k ≤ request-count log → getD (least-costs t log) k 0 < 2 ^ 64
-  unfolding least-costs
+  least-small : (k : ℕ) → k ≤ request-count log → getD (least-costs t none log) k 0 < 2 ^ 64
+  unfolding least-costs upload-conditions first
   least-small k h =
-      rw (build-at (suc (request-count log)) (λ k. plan-cost (prices-in t log) (requests-in log) k) k 0 (omega arith), plan-best (prices-in t log) (requests-in log) k)
-      (omega (arith, best-small (prices-in t log) (requests-in log) (request-count log) (log-fits t log a priced) k k (omega arith) h))
+      rw (build-at (suc (request-count log)) (λ k. plan-cost (rates-in t none log) (requests-in log) k) k 0 (omega arith), plan-best (rates-in t none log) (requests-in log) k)
+      (omega (arith, best-small (rates-in t none log) (requests-in log) (request-count log) (log-fits t log a priced none refl) k k (omega arith) h))
 
   running-small : (i : ℕ) → i < request-count log → getD (running-costs t log) i 0 < 2 ^ 64
   unfolding running-costs live-cost
@@ -68,5 +72,5 @@ module _ (t : Tariff) (priced : Priced t) (log : List ℕ) (a : Accepted t log) 
   unfolding sheet-of
   sheet-fits =
       let few = accepted-sound t log a .requests-most in
-      sheet-length entry (request-count log) (length (planned-rows t log)) (closing-cost t log) few (omega (arith, few-rows t priced log a, few)) closing-small
+      sheet-length entry (request-count log) (length (planned-rows t none log)) (closing-cost t log) few (omega (arith, few-rows t priced log a, few)) closing-small
       (lines-short (request-count log) (omega arith))

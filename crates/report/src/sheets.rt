@@ -1,4 +1,5 @@
 // The sheet of a log.
+ghost use mathlib.Core.Option.{none};
 ghost use mathlib.Core.Path.{_≡_};
 ghost use Prim.Native.Nat.{_≤_};
 ghost use lib.ListN.{length, take};
@@ -67,8 +68,8 @@ fn read_requests(prices: &[u8], log: &[u8], seconds: &mut [u32], servers: &mut [
 // The marks of an accepted log's plan, and the number of the plan's rows.
 fn plan_marks(prices: &[u8], log: &[u8], marks: &mut [u8]) -> u64
     requires { ⌜ Accepted (price-file (now prices)) (now log) × (length (now marks) ≡ most-requests) ⌝ }
-    ensures { λ r. ⌜ r ≡ length (planned-rows (price-file (now (prices .entry))) (now (log .entry))) ⌝ }
-    ensures { λ _. ⌜ now (marks .exit) ≡ lent Passed (marks-of (price-file (now (prices .entry))) (now (log .entry))) (now (marks .entry)) ⌝ }
+    ensures { λ r. ⌜ r ≡ length (planned-rows (price-file (now (prices .entry))) none (now (log .entry))) ⌝ }
+    ensures { λ _. ⌜ now (marks .exit) ≡ lent Passed (marks-of (price-file (now (prices .entry))) none (now (log .entry))) (now (marks .entry)) ⌝ }
 {
     let mut rows = [0u32; ROWS_ROOM];
     let planned = plan_with(prices, log, marks, &mut rows);
@@ -78,7 +79,7 @@ fn plan_marks(prices: &[u8], log: &[u8], marks: &mut [u8]) -> u64
 // The least costs of its first requests.
 fn find_least(prices: &[u8], log: &[u8], costs: &mut [u64])
     requires { ⌜ Accepted (price-file (now prices)) (now log) × (length (now costs) ≡ places) ⌝ }
-    ensures { λ _. ⌜ now (costs .exit) ≡ lent Passed (least-costs (price-file (now (prices .entry))) (now (log .entry))) (now (costs .entry)) ⌝ }
+    ensures { λ _. ⌜ now (costs .exit) ≡ lent Passed (least-costs (price-file (now (prices .entry))) none (now (log .entry))) (now (costs .entry)) ⌝ }
 {
     least_with(prices, log, costs);
 }

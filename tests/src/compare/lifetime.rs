@@ -10,7 +10,7 @@ use crate::calls::{Calls, Simple};
 use crate::log::{self, requests_of, Header, Log};
 use crate::online::{or_zeros, Cache};
 use crate::planner::letter;
-use crate::prices::{self, PriceFile, Prices, Table, BUILT_IN, UNSOLD};
+use crate::prices::{self, PriceFile, Prices, Table, Upload, BUILT_IN, UNSOLD};
 use crate::random::{random_log_of, random_pair, Random};
 use crate::{refuse, Refusal};
 
@@ -21,9 +21,9 @@ pub const SAMPLE: &[u8] = include_bytes!("../../../samples/lifetime.log");
 pub const SAMPLE_SHEET: &str = include_str!("../../../samples/lifetime.sheet");
 
 /// A refusal's number and place, if any.
-type Fault = Option<(u8, usize)>;
+pub(super) type Fault = Option<(u8, usize)>;
 
-fn unless<T>(fault: Fault, value: impl FnOnce() -> T) -> Result<T, Refusal> {
+pub(super) fn unless<T>(fault: Fault, value: impl FnOnce() -> T) -> Result<T, Refusal> {
     match fault {
         Some((number, place)) => refuse(number, place),
         None => Ok(value()),
@@ -71,18 +71,27 @@ pub fn order<C: Calls>() {
     met.exactly(&[0, 3, 4, 5, 7, 11, 12, 13, 31, 43], 4);
 }
 
-/// Each cut of a log: read, and written again or refused with 43; planned and checked, its least costs those of the whole log; quoted; served one by
-/// one and closed.
+/// A log planned and checked, its least costs being the first of some.
+fn planned<C: Calls>(table: &Table, upload: Upload, log: &Log, costs: &[u64]) {
+    let plan = answers::<C>(table.file(), upload, log);
+    assert_eq!(plan, answers::<Simple>(table.file(), upload, log), "{upload:?} {log:?}");
+    let (cost, _, rows, least) = plan;
+    assert_eq!(C::check(table.file(), upload, &log.bytes(), &rows), Ok(cost), "{upload:?} {log:?}");
+    let count = log.requests.len();
+    assert_eq!((cost, &least[..]), (costs[count], &costs[..=count]), "{upload:?} {log:?}");
+}
+
+/// Each cut of a log: read, and written again or refused with 43; planned and checked, its least costs those of the whole log, without uploads and with
+/// uploads at the price of a transfer; quoted; served one by one and closed.
 fn each_cut<C: Calls>(table: &Table, log: &Log, writes: &mut Met, calls: &mut Met) {
-    let (_, _, _, costs) = answers::<C>(table.file(), log);
+    let upload = Some(table.of(log.header.class).transfer);
+    let (_, _, _, costs) = answers::<C>(table.file(), None, log);
+    let (_, _, _, costs_with_uploads) = answers::<C>(table.file(), upload, log);
     for count in 0..=log.requests.len() {
         let cut = log.cut(count);
         writes.count(&round_trip::<C>(table, &cut));
-        let plan = answers::<C>(table.file(), &cut);
-        assert_eq!(plan, answers::<Simple>(table.file(), &cut), "{cut:?}");
-        let (cost, _, rows, least) = plan;
-        assert_eq!(C::check(table.file(), &cut.bytes(), &rows), Ok(cost), "{cut:?}");
-        assert_eq!((cost, &least[..]), (costs[count], &costs[..=count]), "{cut:?}");
+        planned::<C>(table, None, &cut, &costs);
+        planned::<C>(table, upload, &cut, &costs_with_uploads);
         assert!(quote::<C>(table.file(), &cut.bytes()).is_ok(), "{cut:?}");
         let _ = served::<C>(table, &cut, calls);
     }
@@ -95,7 +104,7 @@ pub fn old_logs<C: Calls>(seed: u64, times: usize) {
     let table = Table::built_in();
     let sample = log::read(table.classes(), SAMPLE).unwrap();
     let marks: Vec<u8> = served::<C>(&table, &sample, &mut calls).into_iter().map(letter).collect();
-    assert_eq!((&answers::<C>(None, &sample).1[..], &marks[..]), (&b"SSKSKSKSKKSK"[..], &b"SSKSKSKSKKSS"[..]));
+    assert_eq!((&answers::<C>(None, None, &sample).1[..], &marks[..]), (&b"SSKSKSKSKKSK"[..], &b"SSKSKSKSKKSS"[..]));
     assert_eq!(quote::<C>(None, SAMPLE), Ok(13_990_001));
     each_cut::<C>(&table, &sample, &mut writes, &mut calls);
     for _ in 0..times {
@@ -143,7 +152,7 @@ mod tests {
     fn sample() {
         assert_eq!(printed(None, SAMPLE), SAMPLE_SHEET);
         let (prices, log) = (Prices::of(UNSOLD), log::read(8, SAMPLE).unwrap());
-        let (plan, history) = (plan_by_all_markings(prices, &log), history(prices, log.header.home, &log.requests));
+        let (plan, history) = (plan_by_all_markings(prices, None, &log), history(prices, log.header.home, &log.requests));
         let running = prices.cost(history.held as u64, history.transfers as u64);
         let end = format!(" K S {} {running}\nrows {}\nclose {}\n", plan.cost, plan.rows.len(), history.closing_cost(prices));
         assert!(SAMPLE_SHEET.ends_with(&end), "{end}");

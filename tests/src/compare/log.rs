@@ -115,9 +115,11 @@ pub fn wrong_sums<C: Calls>() {
             let mut file = good.clone();
             file[at] ^= flip;
             met.count(&read::<C>(&mut random, None, &file, count, count));
-            assert_eq!(C::plan(None, &file, &mut [0; 8], &mut [0; 128]), refuse(10, 0));
-            assert_eq!(C::least(None, &file, &mut [0; 9]), refuse(10, 0));
-            assert_eq!(C::check(None, &file, &[]), refuse(10, 0));
+            for upload in [None, Some(3), Some(0)] {
+                assert_eq!(C::plan(None, upload, &file, &mut [0; 8], &mut [0; 128]), refuse(10, 0));
+                assert_eq!(C::least(None, upload, &file, &mut [0; 9]), refuse(10, 0));
+                assert_eq!(C::check(None, upload, &file, &[]), refuse(10, 0));
+            }
             assert_eq!(C::quote(None, &file), refuse(10, 0));
         }
     }

@@ -11,6 +11,7 @@ pub mod online;
 pub mod planner;
 pub mod prices;
 pub mod quote;
+pub mod uploads;
 pub mod weeks;
 
 use crate::random::Random;
@@ -75,6 +76,7 @@ fn noise64(random: &mut Random, length: usize) -> Vec<u64> {
 mod tests {
     use super::*;
     use crate::fast::Fast;
+    use crate::random::{no_upload, random_upload};
 
     #[test]
     fn fast_log() {
@@ -92,28 +94,70 @@ mod tests {
 
     #[test]
     fn fast_checker() {
-        checker::every_pair_of_rows::<Fast>();
-        checker::every_list_of_rows::<Fast>();
-        checker::random_rows::<Fast>(14, 20_000);
-        checker::damaged_logs::<Fast>(15, 1_000);
+        checker::every_pair_of_rows::<Fast>(None);
+        checker::every_list_of_rows::<Fast>(None);
+        checker::random_rows::<Fast>(14, 20_000, no_upload);
+        checker::damaged_logs::<Fast>(15, 1_000, no_upload);
         checker::longest_chain::<Fast>();
-        checker::many_rows::<Fast>(16);
-        checker::bounds::<Fast>();
+        checker::many_rows::<Fast>(16, no_upload);
+        checker::bounds::<Fast>(None);
     }
 
     #[test]
     fn fast_planner() {
-        planner::every_small_log::<Fast>(3);
-        planner::random_logs::<Fast>(17, 5_000);
-        planner::damaged_logs::<Fast>(18, 1_000);
-        planner::all_markings::<Fast>(19, 500);
-        planner::sources::<Fast>(23, 500);
-        planner::every_set_of_holders::<Fast>();
-        planner::all_sets::<Fast>(20, 500);
+        planner::every_small_log::<Fast>(3, no_upload);
+        planner::random_logs::<Fast>(17, 5_000, no_upload);
+        planner::damaged_logs::<Fast>(18, 1_000, no_upload);
+        planner::all_markings::<Fast>(19, 500, 10, no_upload);
+        planner::sources::<Fast>(23, 500, 100, no_upload);
+        planner::every_set_of_holders::<Fast>(None);
+        planner::all_sets::<Fast>(20, 500, no_upload);
         planner::all_schedules::<Fast>();
-        planner::every_small_log_by_sets::<Fast>(3);
-        planner::long_logs::<Fast>(21, 1);
-        planner::bounds::<Fast>();
+        planner::every_small_log_by_sets::<Fast>(3, no_upload);
+        planner::long_logs::<Fast>(21, 1, no_upload);
+        planner::bounds::<Fast>(None);
+    }
+
+    #[test]
+    fn fast_uploads() {
+        uploads::week_c::<Fast>();
+        uploads::weeks::<Fast>();
+        uploads::price_bounds::<Fast>();
+        uploads::order::<Fast>();
+        uploads::form::<Fast>();
+        uploads::standing::<Fast>();
+        uploads::longest_chain::<Fast>();
+        uploads::many_uploads::<Fast>();
+        uploads::ties::<Fast>();
+        uploads::two_rows_a_request::<Fast>();
+        uploads::largest::<Fast>();
+        uploads::every_small_log::<Fast>(2);
+        uploads::all_schedules::<Fast>();
+        uploads::beside_none::<Fast>(37, 5_000);
+    }
+
+    #[test]
+    fn fast_checker_with_uploads() {
+        checker::every_pair_of_rows::<Fast>(Some(3));
+        checker::every_list_of_rows::<Fast>(Some(3));
+        checker::random_rows::<Fast>(38, 20_000, random_upload);
+        checker::damaged_logs::<Fast>(39, 1_000, random_upload);
+        checker::many_rows::<Fast>(40, random_upload);
+        checker::bounds::<Fast>(Some(7));
+    }
+
+    #[test]
+    fn fast_planner_with_uploads() {
+        planner::every_small_log::<Fast>(3, random_upload);
+        planner::random_logs::<Fast>(41, 5_000, random_upload);
+        planner::damaged_logs::<Fast>(42, 1_000, random_upload);
+        planner::all_markings::<Fast>(43, 500, 7, random_upload);
+        planner::sources::<Fast>(44, 2_000, 100, random_upload);
+        planner::every_set_of_holders::<Fast>(Some(600));
+        planner::all_sets::<Fast>(45, 500, random_upload);
+        planner::every_small_log_by_sets::<Fast>(3, random_upload);
+        planner::long_logs::<Fast>(46, 1, random_upload);
+        planner::bounds::<Fast>(Some(100_000));
     }
 
     #[test]

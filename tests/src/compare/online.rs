@@ -190,7 +190,7 @@ impl Run<'_> {
         let log = Log { header: self.header, requests: self.taken.clone() };
         let _ = round_trip::<C>(self.table, &log);
         let mut costs = vec![0; self.taken.len() + 1];
-        C::least(self.table.file(), &log.bytes(), &mut costs).unwrap();
+        C::least(self.table.file(), None, &log.bytes(), &mut costs).unwrap();
         let (least, running) = (costs[self.taken.len()], C::running(&self.cache).unwrap());
         assert!(least <= running && running <= 3 * least, "{prices:?} {log:?} {least} {running}");
         let most = 3 * least + prices.transfer as u64;

@@ -6,8 +6,10 @@ use crate::checker::flat;
 use crate::log::{Header, Log, Request};
 use crate::online::{Cache, ZEROS};
 use crate::planner::plan;
-use crate::prices::{encode, PriceFile, Table, BUILT_IN, HIGHEST, MOST_CLASSES, UNSOLD};
-use crate::random::{damaged_log, damaged_prices, random_header, random_log, random_pair, random_prices, Random};
+use crate::prices::{check_upload, encode, PriceFile, Prices, Table, Upload, BUILT_IN, HIGHEST, MOST_CLASSES, UNSOLD};
+use crate::random::{
+    damaged_log, damaged_prices, random_header, random_log, random_pair, random_prices, random_upload, wrong_upload, Random,
+};
 use crate::{refuse, Refusal};
 
 const READ: usize = 0;
@@ -17,9 +19,13 @@ const PLAN: usize = 3;
 const LEAST: usize = 4;
 const QUOTE: usize = 5;
 const START: usize = 6;
+const CHECK_UPLOADS: usize = 7;
+const PLAN_UPLOADS: usize = 8;
+const LEAST_UPLOADS: usize = 9;
+const CALLS: usize = 10;
 
 /// The calls that take a price file, each with what it came to.
-type Outcomes = [Result<(), Refusal>; 7];
+type Outcomes = [Result<(), Refusal>; CALLS];
 
 /// What a log is to the calls: its bytes, right or wrong, and what it holds, for those that take that.
 struct Input {
@@ -33,37 +39,50 @@ impl Input {
     }
 }
 
-/// The numbers of the plan's rows, none where the log is refused.
-fn planned(prices: PriceFile, file: &[u8]) -> Vec<u32> {
+/// The numbers of the plan's rows, none where the log or the upload price is refused.
+fn planned(prices: PriceFile, upload: Upload, file: &[u8]) -> Vec<u32> {
     let rows = |prices| {
         let table = Table::read(prices)?;
         let log = crate::log::read(table.classes(), file)?;
-        Ok::<_, Refusal>(flat(&plan(table.of(log.header.class), &log).rows))
+        check_upload(upload)?;
+        Ok::<_, Refusal>(flat(&plan(table.of(log.header.class), upload, &log).rows))
     };
     rows(prices).unwrap_or_default()
 }
 
-/// Every call on one input, its outputs of any length.
-fn every_call<C: Calls>(random: &mut Random, prices: PriceFile, input: &Input) -> Outcomes {
+/// Check, plan and least costs of one input, their outputs of any length.
+fn schedules<C: Calls>(random: &mut Random, prices: PriceFile, upload: Upload, input: &Input) -> [Result<(), Refusal>; 3] {
     let Input { log, file } = input;
     let count = log.requests.len();
-    let mut rows = planned(prices, file);
-    let (out, marks, numbers, costs) = (room(random, 40 + 6 * count), room(random, count), room(random, rows.len()), room(random, count + 1));
+    let mut rows = planned(prices, upload, file);
+    let (marks, numbers, costs) = (room(random, count), room(random, rows.len()), room(random, count + 1));
     if rows.is_empty() || random.once_in(8) {
         rows = (0..random.below(9)).map(|_| random.number()).collect();
     }
-    let mut outcomes = [Ok(()); 7];
+    [
+        checker::check::<C>(prices, upload, file, &rows).map(drop),
+        planner::plan::<C>(random, prices, upload, file, marks, numbers).map(drop),
+        planner::least::<C>(random, prices, upload, file, costs).map(drop),
+    ]
+}
+
+/// Every call on one input, its outputs of any length; the upload price is in range or out of it.
+fn every_call<C: Calls>(random: &mut Random, prices: PriceFile, input: &Input) -> Outcomes {
+    let Input { log, file } = input;
+    let out = room(random, 40 + 6 * log.requests.len());
+    let (hold, transfer) = random_pair(random);
+    let upload = if random.once_in(8) { wrong_upload(random) } else { random_upload(random, Prices { hold, transfer }) };
+    let mut outcomes = [Ok(()); CALLS];
     outcomes[READ] = log::read_with_any_room::<C>(random, prices, file).map(drop);
     outcomes[WRITE] = log::write::<C>(random, prices, &log.header, &log.seconds(), &log.servers(), out).map(drop);
-    outcomes[CHECK] = checker::check::<C>(prices, file, &rows).map(drop);
-    outcomes[PLAN] = planner::plan::<C>(random, prices, file, marks, numbers).map(drop);
-    outcomes[LEAST] = planner::least::<C>(random, prices, file, costs).map(drop);
+    [outcomes[CHECK], outcomes[PLAN], outcomes[LEAST]] = schedules::<C>(random, prices, None, input);
+    [outcomes[CHECK_UPLOADS], outcomes[PLAN_UPLOADS], outcomes[LEAST_UPLOADS]] = schedules::<C>(random, prices, upload, input);
     outcomes[QUOTE] = quote::quote::<C>(prices, file).map(drop);
     outcomes[START] = online::start::<C>(prices, &log.header);
     outcomes
 }
 
-fn count(mets: &mut [Met; 7], outcomes: &Outcomes) {
+fn count(mets: &mut [Met; CALLS], outcomes: &Outcomes) {
     for (met, outcome) in mets.iter_mut().zip(outcomes) {
         met.count(outcome);
     }
@@ -130,19 +149,22 @@ fn inputs(classes: usize) -> Vec<Input> {
 /// Every call with each price file about a bound, on logs about its number of classes. What 02 refuses is refused by all of them, whatever the log.
 pub fn boundaries<C: Calls>() {
     let mut random = Random::new(300);
-    let mut mets: [Met; 7] = Default::default();
+    let mut mets: [Met; CALLS] = Default::default();
     for (file, refusal) in boundary_files() {
         let classes = file.len().saturating_sub(4) / 8;
         for input in inputs(classes) {
             let outcomes = every_call::<C>(&mut random, Some(&file), &input);
             if let Some((number, place)) = refusal {
-                assert_eq!(outcomes, [Err(Refusal { number, place }); 7], "{file:?}");
+                assert_eq!(outcomes, [Err(Refusal { number, place }); CALLS], "{file:?}");
             }
             count(&mut mets, &outcomes);
         }
     }
     for call in [READ, CHECK, PLAN, LEAST, QUOTE] {
         mets[call].at_least(&[0, 1, 3, 4, 7, 10, 13, 37, 38], 50);
+    }
+    for call in [CHECK_UPLOADS, PLAN_UPLOADS, LEAST_UPLOADS] {
+        mets[call].at_least(&[0, 1, 3, 4, 7, 10, 13, 37, 38, 44], 10);
     }
     mets[WRITE].exactly(&[0, 3, 4, 7, 13, 31, 37, 38], 50);
     mets[START].exactly(&[0, 3, 4, 37, 38], 50);
@@ -160,7 +182,9 @@ pub fn every_byte<C: Calls>() {
             let mut file = good.clone();
             file[at] = byte;
             met.count(&online::start::<C>(Some(&file), &header));
-            met.count(&planner::least::<C>(&mut random, Some(&file), &input.file, 4));
+            for upload in [None, Some(17)] {
+                met.count(&planner::least::<C>(&mut random, Some(&file), upload, &input.file, 4));
+            }
             met.count(&quote::quote::<C>(Some(&file), &input.file));
         }
     }
@@ -170,7 +194,7 @@ pub fn every_byte<C: Calls>() {
 /// Random price files, every second one damaged, and logs of any kind.
 pub fn random_files<C: Calls>(seed: u64, times: usize) {
     let mut random = Random::new(seed);
-    let mut mets: [Met; 7] = Default::default();
+    let mut mets: [Met; CALLS] = Default::default();
     for i in 0..times {
         let table = random_prices(&mut random);
         let damaged = if i % 2 == 0 { None } else { Some(damaged_prices(&mut random)) };
@@ -195,6 +219,9 @@ pub fn random_files<C: Calls>(seed: u64, times: usize) {
     mets[CHECK].at_least(&[0, 1, 2, 3, 4, 5, 6, 7, 8, 9, 10, 11, 12, 13, 14, 37, 38], often);
     mets[PLAN].exactly(&[0, 1, 2, 3, 4, 5, 6, 7, 8, 9, 10, 11, 12, 13, 31, 37, 38], often);
     mets[LEAST].exactly(&[0, 1, 2, 3, 4, 5, 6, 7, 8, 9, 10, 11, 12, 13, 31, 37, 38], often);
+    mets[CHECK_UPLOADS].at_least(&[0, 1, 2, 3, 4, 5, 6, 7, 8, 9, 10, 11, 12, 13, 14, 37, 38, 44], often);
+    mets[PLAN_UPLOADS].exactly(&[0, 1, 2, 3, 4, 5, 6, 7, 8, 9, 10, 11, 12, 13, 31, 37, 38, 44], often);
+    mets[LEAST_UPLOADS].exactly(&[0, 1, 2, 3, 4, 5, 6, 7, 8, 9, 10, 11, 12, 13, 31, 37, 38, 44], often);
     mets[QUOTE].exactly(&[0, 1, 2, 3, 4, 5, 6, 7, 8, 9, 10, 11, 12, 13, 37, 38], often);
     mets[START].exactly(&[0, 3, 37, 38], often);
 }
@@ -210,7 +237,7 @@ pub fn every_class<C: Calls>(seed: u64) {
         }
     }
     let table = Table::of_pairs(&pairs);
-    let mut mets: [Met; 7] = Default::default();
+    let mut mets: [Met; CALLS] = Default::default();
     for class in 0..=255 {
         let header = Header { class, server_count: 2, home: 0, id: [class; 16] };
         let (cache, _) = C::start(table.file(), &header);
@@ -223,19 +250,27 @@ pub fn every_class<C: Calls>(seed: u64) {
     }
     mets[START].exactly(&[0], 1_024);
     mets[LEAST].exactly(&[0, 31], 50);
+    mets[LEAST_UPLOADS].exactly(&[0, 31, 44], 50);
     mets[QUOTE].exactly(&[0], 1_024);
 }
 
-/// All that the calls give for the bytes of a log, and their outputs, which have the same noise before.
-fn answers<C: Calls>(prices: PriceFile, file: &[u8], rows: &[u32], seed: u64, lengths: [usize; 5]) -> impl PartialEq + std::fmt::Debug {
+/// All that the calls give for an upload price or none, the bytes of a log and some rows, and their outputs, which have the same noise before.
+fn answers<C: Calls>(
+    prices: PriceFile,
+    upload: Upload,
+    file: &[u8],
+    rows: &[u32],
+    seed: u64,
+    lengths: [usize; 5],
+) -> impl PartialEq + std::fmt::Debug {
     let random = &mut Random::new(seed);
     let [seconds, servers, marks, numbers, costs] = lengths;
     let (mut seconds, mut servers) = (noise32(random, seconds), noise16(random, servers));
     let (mut marks, mut numbers, mut costs) = (noise8(random, marks), noise32(random, numbers), noise64(random, costs));
     let read = C::read(prices, file, &mut seconds, &mut servers);
-    let checked = C::check(prices, file, rows);
-    let planned = C::plan(prices, file, &mut marks, &mut numbers);
-    let least = C::least(prices, file, &mut costs);
+    let checked = C::check(prices, upload, file, rows);
+    let planned = C::plan(prices, upload, file, &mut marks, &mut numbers);
+    let least = C::least(prices, upload, file, &mut costs);
     let quoted = C::quote(prices, file);
     ((read, seconds, servers), (checked, planned, marks, numbers, least, costs), quoted)
 }
@@ -262,12 +297,15 @@ pub fn built_in_as_a_file<C: Calls>(seed: u64, times: usize) {
             1 => input.log.header = Header { class: random.below(12) as u8, ..random_header(&mut random, &table) },
             _ => {}
         }
-        let rows = planned(None, &input.file);
         let count = input.log.requests.len();
-        let lengths = [count, count, count, rows.len(), count + 1].map(|needed| room(&mut random, needed));
-        let seed = random.word();
-        let without = answers::<C>(None, &input.file, &rows, seed, lengths);
-        assert_eq!(answers::<C>(Some(&file), &input.file, &rows, seed, lengths), without, "{:?}", input.file);
+        let prices = table.of(random.below(8) as u8);
+        for upload in [None, random_upload(&mut random, prices)] {
+            let rows = planned(None, upload, &input.file);
+            let lengths = [count, count, count, rows.len(), count + 1].map(|needed| room(&mut random, needed));
+            let seed = random.word();
+            let without = answers::<C>(None, upload, &input.file, &rows, seed, lengths);
+            assert_eq!(answers::<C>(Some(&file), upload, &input.file, &rows, seed, lengths), without, "{upload:?} {:?}", input.file);
+        }
         let length = room(&mut random, 40 + 6 * count);
         let noise = noise8(&mut random, length);
         let (without, with) = (made::<C>(None, &input.log, &noise), made::<C>(Some(&file), &input.log, &noise));

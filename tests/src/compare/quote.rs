@@ -23,8 +23,8 @@ pub(super) fn quote<C: Calls>(prices: PriceFile, file: &[u8]) -> Result<u64, Ref
 fn least<C: Calls>(table: &Table, log: &Log) -> Vec<u64> {
     let count = log.requests.len();
     let mut costs = vec![9; count + 1];
-    assert_eq!(C::least(table.file(), &log.bytes(), &mut costs), Ok(count as u32 + 1));
-    assert_eq!(costs, planner::least(table.of(log.header.class), log), "{log:?}");
+    assert_eq!(C::least(table.file(), None, &log.bytes(), &mut costs), Ok(count as u32 + 1));
+    assert_eq!(costs, planner::least(table.of(log.header.class), None, log), "{log:?}");
     costs
 }
 
@@ -167,7 +167,7 @@ pub fn every_small_log_by_sets<C: Calls>(most: usize) {
             let header = Header { class, server_count, home: server_count / 2, id: [0; 16] };
             for requests in small_lists(prices, server_count, most) {
                 let log = Log { header, requests };
-                seen.quote::<C>(&table, &log, least_by_sets(prices, &log));
+                seen.quote::<C>(&table, &log, least_by_sets(prices, None, &log));
             }
         }
     }

@@ -115,11 +115,11 @@ impl Week {
         let file = self.log().bytes();
         let count = self.requests.len();
         let (mut marks, mut rows, mut costs) = (vec![1; count], vec![1; 8 * count], vec![1; count + 1]);
-        let (cost, number) = C::plan(None, &file, &mut marks, &mut rows).unwrap();
+        let (cost, number) = C::plan(None, None, &file, &mut marks, &mut rows).unwrap();
         rows.truncate(4 * number as usize);
-        assert_eq!(C::least(None, &file, &mut costs), Ok(count as u32 + 1));
+        assert_eq!(C::least(None, None, &file, &mut costs), Ok(count as u32 + 1));
         assert!(costs.ends_with(self.least) && cost == costs[count], "{costs:?}");
-        assert_eq!(C::check(None, &file, &rows), Ok(cost));
+        assert_eq!(C::check(None, None, &file, &rows), Ok(cost));
         if let Some(expected) = self.marks {
             assert_eq!(marks, expected.as_bytes());
         }
@@ -159,8 +159,8 @@ pub fn a_to_f<C: Calls>() {
 /// Week G: a cycle of transfers with nothing behind it, and then with something.
 pub fn g<C: Calls>() {
     let file = log_of(0, 2, &[(1, 0)]).bytes();
-    assert_eq!(C::check(None, &file, &[1, 0, 1, 1, 1, 1, 0, 1]), refuse(17, 1));
-    assert_eq!(C::check(None, &file, &[0, 0, 0, 1, 1, 0, 1, 1, 1, 1, 0, 1]), Ok(21));
+    assert_eq!(C::check(None, None, &file, &[1, 0, 1, 1, 1, 1, 0, 1]), refuse(17, 1));
+    assert_eq!(C::check(None, None, &file, &[0, 0, 0, 1, 1, 0, 1, 1, 1, 1, 0, 1]), Ok(21));
 }
 
 fn read<C: Calls>(requests: &[(u32, u16)]) -> Result<u16, Refusal> {
@@ -207,15 +207,15 @@ mod tests {
         for week in WEEKS {
             let log = week.log();
             let prices = Prices::of(week.class);
-            for (k, &cost) in least(prices, &log).iter().enumerate() {
-                assert_eq!(plan_by_all_markings(prices, &log.cut(k)).cost, cost);
-                assert_eq!(least_by_sets(prices, &log.cut(k)), cost);
+            for (k, &cost) in least(prices, None, &log).iter().enumerate() {
+                assert_eq!(plan_by_all_markings(prices, None, &log.cut(k)).cost, cost);
+                assert_eq!(least_by_sets(prices, None, &log.cut(k)), cost);
             }
         }
     }
 
     #[test]
     fn three_markings_of_week_c_cost_42() {
-        assert_eq!(all_markings(Prices::of(C.class), &C.log()).iter().filter(|plan| plan.cost == 42).count(), 3);
+        assert_eq!(all_markings(Prices::of(C.class), None, &C.log()).iter().filter(|plan| plan.cost == 42).count(), 3);
     }
 }

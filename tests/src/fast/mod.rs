@@ -11,7 +11,7 @@ pub mod quote;
 use crate::calls::Calls;
 use crate::log::Header;
 use crate::online::{or_zeros, Cache, Served};
-use crate::prices::PriceFile;
+use crate::prices::{PriceFile, Upload};
 use crate::Refusal;
 
 /// The fast implementation.
@@ -30,16 +30,16 @@ impl Calls for Fast {
         log::write(prices, header, seconds, servers, out)
     }
 
-    fn check(prices: PriceFile, file: &[u8], rows: &[u32]) -> Result<u64, Refusal> {
-        checker::check(prices, file, rows)
+    fn check(prices: PriceFile, upload: Upload, file: &[u8], rows: &[u32]) -> Result<u64, Refusal> {
+        checker::check(prices, upload, file, rows)
     }
 
-    fn plan(prices: PriceFile, file: &[u8], marks: &mut [u8], rows: &mut [u32]) -> Result<(u64, u32), Refusal> {
-        planner::plan(prices, file, marks, rows)
+    fn plan(prices: PriceFile, upload: Upload, file: &[u8], marks: &mut [u8], rows: &mut [u32]) -> Result<(u64, u32), Refusal> {
+        planner::plan(prices, upload, file, marks, rows)
     }
 
-    fn least(prices: PriceFile, file: &[u8], costs: &mut [u64]) -> Result<u32, Refusal> {
-        planner::least(prices, file, costs)
+    fn least(prices: PriceFile, upload: Upload, file: &[u8], costs: &mut [u64]) -> Result<u32, Refusal> {
+        planner::least(prices, upload, file, costs)
     }
 
     fn quote(prices: PriceFile, file: &[u8]) -> Result<u64, Refusal> {

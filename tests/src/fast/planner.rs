@@ -2,26 +2,30 @@
 //!
 //! Taken from the last request back, what later K spans cover is a stretch that begins at the latest request of some server
 //! (the one after it, being later, is the K). So a state is a server; the last request's own server stands for nothing covered.
+//! Where a request is not K, only the gap before it tells S from U: a transfer and, if nothing covers the gap, its holding, or an upload.
 
 use super::log::accepted;
 use super::prices::table;
 use crate::log::{Header, Request, MOST_REQUESTS};
-use crate::prices::{PriceFile, Prices};
+use crate::prices::{check_upload, PriceFile, Prices, Upload};
 use crate::{refuse, Refusal};
 
 const NEVER: u64 = u64::MAX / 2;
 const POINTS: usize = MOST_REQUESTS + 1;
 
-/// The points of a log: home at second 0, then the requests; and the prices of its class.
+/// The points of a log: home at second 0, then the requests; the prices of its class, and that of an upload.
 struct Points {
     prices: Prices,
+    upload: u64,
     header: Header,
     count: usize,
     second: [u32; POINTS],
     server: [u8; POINTS],
 }
 
-fn points(prices: PriceFile, file: &[u8]) -> Result<Points, Refusal> {
+// in its callers, as its lists would be copied
+#[inline(always)]
+fn points(prices: PriceFile, upload: Upload, file: &[u8]) -> Result<Points, Refusal> {
     let table = table(prices)?;
     let mut second = [0; POINTS];
     let mut server = [0; POINTS];
@@ -29,8 +33,25 @@ fn points(prices: PriceFile, file: &[u8]) -> Result<Points, Refusal> {
         second[i + 1] = request.second;
         server[i + 1] = request.server as u8;
     })?;
+    check_upload(upload)?;
     server[0] = header.home;
-    Ok(Points { prices: table.of(header.class), header, count, second, server })
+    let upload = upload.map_or(NEVER, |price| price as u64);
+    Ok(Points { prices: table.of(header.class), upload, header, count, second, server })
+}
+
+impl Points {
+    fn hold(&self, from: usize, to: usize) -> u64 {
+        self.prices.cost((self.second[to] - self.second[from]) as u64, 0)
+    }
+
+    /// What S costs at a request, the gap before it covered or not.
+    fn send(&self, i: usize, covered: bool) -> u64 {
+        if self.server[i] == self.server[i - 1] {
+            return NEVER;
+        }
+        let gap = if covered { 0 } else { self.hold(i - 1, i) };
+        gap + self.prices.cost(0, 1)
+    }
 }
 
 /// The least cost of the requests so far for each state, and each server's latest point.
@@ -49,24 +70,24 @@ impl Costs {
 
     /// One request more; gives back the states in which it is K.
     fn step(&mut self, points: &Points, i: usize) -> u64 {
-        let hold = |seconds: u32| points.prices.cost(seconds as u64, 0);
         let (at, before) = (points.server[i] as usize, points.server[i - 1] as usize);
         let previous = self.latest[at];
-        let keep = if previous < 0 { NEVER } else { hold(points.second[i] - points.second[previous as usize]) };
-        let send = if at == before { NEVER } else { points.prices.cost(0, 1) };
-        let gap = hold(points.second[i] - points.second[i - 1]);
+        let keep = if previous < 0 { NEVER } else { points.hold(previous as usize, i) };
+        // without K: the gap before it covered by later spans, and not
+        let other = points.send(i, true).min(points.upload);
+        let bare_other = points.send(i, false).min(points.upload) + self.cost[before];
         // K with nothing, or less than this span, covered by later spans
         let kept = if previous < 0 { NEVER } else { keep + self.cost[at] };
-        let bare = kept.min(send + gap + self.cost[before]);
-        let mut keeps = u64::from(kept <= send + gap + self.cost[before]) << at;
+        let bare = kept.min(bare_other);
+        let mut keeps = u64::from(kept <= bare_other) << at;
         for state in 0..points.header.server_count as usize {
             if state == at || self.latest[state] < 0 {
                 continue;
             }
             let with_keep = if self.latest[state] < previous { keep + self.cost[state] } else { kept };
-            let with_send = send + self.cost[state];
-            keeps |= u64::from(with_keep <= with_send) << state;
-            self.cost[state] = with_keep.min(with_send);
+            let with_other = other + self.cost[state];
+            keeps |= u64::from(with_keep <= with_other) << state;
+            self.cost[state] = with_keep.min(with_other);
         }
         self.cost[at] = bare;
         self.latest[at] = i as i32;
@@ -74,8 +95,8 @@ impl Costs {
     }
 }
 
-pub fn least(prices: PriceFile, file: &[u8], costs: &mut [u64]) -> Result<u32, Refusal> {
-    let points = points(prices, file)?;
+pub fn least(prices: PriceFile, upload: Upload, file: &[u8], costs: &mut [u64]) -> Result<u32, Refusal> {
+    let points = points(prices, upload, file)?;
     let n = points.count;
     if costs.len() < n + 1 {
         return refuse(31, n + 1);
@@ -91,7 +112,7 @@ pub fn least(prices: PriceFile, file: &[u8], costs: &mut [u64]) -> Result<u32, R
 }
 
 /// The servers that hold over each gap, as words, and the marks, from the last request back.
-fn choose(points: &Points, keeps: &[u64; POINTS], kept: &mut [bool; POINTS], holders: &mut [u64; POINTS]) {
+fn choose(points: &Points, keeps: &[u64; POINTS], marks: &mut [u8; POINTS], holders: &mut [u64; POINTS]) {
     let mut previous = [0u16; POINTS];
     let mut latest = [0u16; 64];
     for i in 1..=points.count {
@@ -108,53 +129,54 @@ fn choose(points: &Points, keeps: &[u64; POINTS], kept: &mut [bool; POINTS], hol
             state = at;
         }
         active &= !(1 << at);
-        kept[i] = keeps[i] >> state & 1 == 1;
-        if kept[i] {
+        if keeps[i] >> state & 1 == 1 {
+            marks[i] = b'K';
             active |= 1 << at;
             if (previous[i] as usize) < reach {
                 reach = previous[i] as usize;
                 state = at;
             }
+        } else {
+            marks[i] = if points.send(i, active != 0) <= points.upload { b'S' } else { b'U' };
         }
-        holders[i] = if active == 0 { 1 << points.server[i - 1] } else { active };
+        holders[i] = if active == 0 && marks[i] == b'S' { 1 << points.server[i - 1] } else { active };
     }
 }
 
-pub fn plan(prices: PriceFile, file: &[u8], marks: &mut [u8], rows: &mut [u32]) -> Result<(u64, u32), Refusal> {
-    let points = points(prices, file)?;
+pub fn plan(prices: PriceFile, upload: Upload, file: &[u8], marks: &mut [u8], rows: &mut [u32]) -> Result<(u64, u32), Refusal> {
+    let points = points(prices, upload, file)?;
     let n = points.count;
     let mut table = Costs::new(points.header.home);
     let mut keeps = [0; POINTS];
     for i in 1..=n {
         keeps[i] = table.step(&points, i);
     }
-    let (mut kept, mut holders) = ([false; POINTS], [0u64; POINTS]);
-    choose(&points, &keeps, &mut kept, &mut holders);
+    let (mut letters, mut holders) = ([0; POINTS], [0u64; POINTS]);
+    choose(&points, &keeps, &mut letters, &mut holders);
     let mut starts = [0u32; 65];
-    let mut transfers = 0;
+    let (mut transfers, mut uploads) = (0, 0);
     for i in 1..=n {
         let mut begun = holders[i] & !holders[i - 1];
         while begun != 0 {
             starts[begun.trailing_zeros() as usize + 1] += 1;
             begun &= begun - 1;
         }
-        transfers += u32::from(!kept[i]);
+        transfers += u32::from(letters[i] == b'S');
+        uploads += u32::from(letters[i] == b'U');
     }
     for server in 0..64 {
         starts[server + 1] += starts[server];
     }
-    let count = starts[64] + transfers;
+    let count = starts[64] + transfers + uploads;
     if marks.len() < n {
         return refuse(31, n);
     }
     if rows.len() < 4 * count as usize {
         return refuse(31, 4 * count as usize);
     }
-    for i in 1..=n {
-        marks[i - 1] = if kept[i] { b'K' } else { b'S' };
-    }
+    marks[..n].copy_from_slice(&letters[1..=n]);
     marks[n..].fill(0);
-    put_rows(&points, &kept, &holders, starts, rows);
+    put_rows(&points, &letters, &holders, starts, transfers, rows);
     rows[4 * count as usize..].fill(0);
     Ok((table.cost[points.server[n] as usize], count))
 }
@@ -167,10 +189,11 @@ fn nearest(servers: u64, target: u32) -> u32 {
     if below != 0 && target - low <= ahead { low } else { target + ahead }
 }
 
-/// Holds to where their server's begin, then transfers.
-fn put_rows(points: &Points, kept: &[bool; POINTS], holders: &[u64; POINTS], mut starts: [u32; 65], rows: &mut [u32]) {
+/// Holds to where their server's begin, then transfers, then uploads.
+fn put_rows(points: &Points, marks: &[u8; POINTS], holders: &[u64; POINTS], mut starts: [u32; 65], transfers: u32, rows: &mut [u32]) {
     let n = points.count;
     let mut transfer = 4 * starts[64] as usize;
+    let mut upload = transfer + 4 * transfers as usize;
     for i in 1..=n {
         let mut begun = holders[i] & !holders[i - 1];
         while begun != 0 {
@@ -186,11 +209,14 @@ fn put_rows(points: &Points, kept: &[bool; POINTS], holders: &[u64; POINTS], mut
             starts[server] += 1;
             ended &= ended - 1;
         }
-        if !kept[i] {
-            let target = points.server[i] as u32;
+        let target = points.server[i] as u32;
+        if marks[i] == b'S' {
             let row = [1, nearest(holders[i], target), target, points.second[i]];
             rows[transfer..transfer + 4].copy_from_slice(&row);
             transfer += 4;
+        } else if marks[i] == b'U' {
+            rows[upload..upload + 4].copy_from_slice(&[2, target, points.second[i], 0]);
+            upload += 4;
         }
     }
 }

@@ -1,4 +1,5 @@
-//! The proved library as an implementation of the calls: the static library of `rt staticlib exports`. With a price file a call has another name.
+//! The proved library as an implementation of the calls: the static library of `rt staticlib exports`. With a price file a call has another name, and
+//! so it has with an upload price.
 //!
 //! Nothing checks these declarations against crates/exports/src/lib.rt. A slice crosses as a pointer and a length of its own;
 //! declared as `&[T]` it would go wrong where only one register is left, as Rust then puts both on the stack.
@@ -6,7 +7,7 @@
 use reference::calls::Calls;
 use reference::log::Header;
 use reference::online::{Cache, Served};
-use reference::prices::PriceFile;
+use reference::prices::{PriceFile, Upload};
 use reference::Refusal;
 
 #[cfg(no_exports)]
@@ -111,6 +112,16 @@ extern "C" {
         rows: *const u32,
         rows_length: usize,
     ) -> Answer;
+    fn caching_check_uploads(upload: u32, log: *const u8, log_length: usize, rows: *const u32, rows_length: usize) -> Answer;
+    fn caching_check_uploads_with(
+        prices: *const u8,
+        prices_length: usize,
+        upload: u32,
+        log: *const u8,
+        log_length: usize,
+        rows: *const u32,
+        rows_length: usize,
+    ) -> Answer;
     fn caching_plan(
         log: *const u8,
         log_length: usize,
@@ -129,10 +140,40 @@ extern "C" {
         rows: *mut u32,
         rows_length: usize,
     ) -> Answer;
+    fn caching_plan_uploads(
+        upload: u32,
+        log: *const u8,
+        log_length: usize,
+        marks: *mut u8,
+        marks_length: usize,
+        rows: *mut u32,
+        rows_length: usize,
+    ) -> Answer;
+    fn caching_plan_uploads_with(
+        prices: *const u8,
+        prices_length: usize,
+        upload: u32,
+        log: *const u8,
+        log_length: usize,
+        marks: *mut u8,
+        marks_length: usize,
+        rows: *mut u32,
+        rows_length: usize,
+    ) -> Answer;
     fn caching_least(log: *const u8, log_length: usize, costs: *mut u64, costs_length: usize) -> Answer;
     fn caching_least_with(
         prices: *const u8,
         prices_length: usize,
+        log: *const u8,
+        log_length: usize,
+        costs: *mut u64,
+        costs_length: usize,
+    ) -> Answer;
+    fn caching_least_uploads(upload: u32, log: *const u8, log_length: usize, costs: *mut u64, costs_length: usize) -> Answer;
+    fn caching_least_uploads_with(
+        prices: *const u8,
+        prices_length: usize,
+        upload: u32,
         log: *const u8,
         log_length: usize,
         costs: *mut u64,
@@ -202,31 +243,47 @@ impl Calls for Library {
         answer.value()
     }
 
-    fn check(prices: PriceFile, file: &[u8], rows: &[u32]) -> Result<u64, Refusal> {
+    fn check(prices: PriceFile, upload: Upload, file: &[u8], rows: &[u32]) -> Result<u64, Refusal> {
         let (log, length) = (file.as_ptr(), file.len());
-        let answer = match prices {
-            None => unsafe { caching_check(log, length, rows.as_ptr(), rows.len()) },
-            Some(file) => unsafe { caching_check_with(file.as_ptr(), file.len(), log, length, rows.as_ptr(), rows.len()) },
+        let (rows, rows_length) = (rows.as_ptr(), rows.len());
+        let answer = match (prices, upload) {
+            (None, None) => unsafe { caching_check(log, length, rows, rows_length) },
+            (None, Some(price)) => unsafe { caching_check_uploads(price, log, length, rows, rows_length) },
+            (Some(file), None) => unsafe { caching_check_with(file.as_ptr(), file.len(), log, length, rows, rows_length) },
+            (Some(file), Some(price)) => unsafe {
+                caching_check_uploads_with(file.as_ptr(), file.len(), price, log, length, rows, rows_length)
+            },
         };
         answer.value()
     }
 
-    fn plan(prices: PriceFile, file: &[u8], marks: &mut [u8], rows: &mut [u32]) -> Result<(u64, u32), Refusal> {
+    fn plan(prices: PriceFile, upload: Upload, file: &[u8], marks: &mut [u8], rows: &mut [u32]) -> Result<(u64, u32), Refusal> {
         let (log, length) = (file.as_ptr(), file.len());
         let (marks, marks_length) = (marks.as_mut_ptr(), marks.len());
         let (rows, rows_length) = (rows.as_mut_ptr(), rows.len());
-        let answer = match prices {
-            None => unsafe { caching_plan(log, length, marks, marks_length, rows, rows_length) },
-            Some(file) => unsafe { caching_plan_with(file.as_ptr(), file.len(), log, length, marks, marks_length, rows, rows_length) },
+        let answer = match (prices, upload) {
+            (None, None) => unsafe { caching_plan(log, length, marks, marks_length, rows, rows_length) },
+            (None, Some(price)) => unsafe { caching_plan_uploads(price, log, length, marks, marks_length, rows, rows_length) },
+            (Some(file), None) => unsafe {
+                caching_plan_with(file.as_ptr(), file.len(), log, length, marks, marks_length, rows, rows_length)
+            },
+            (Some(file), Some(price)) => unsafe {
+                caching_plan_uploads_with(file.as_ptr(), file.len(), price, log, length, marks, marks_length, rows, rows_length)
+            },
         };
         answer.outcome().map(|(cost, number)| (cost, number.try_into().unwrap()))
     }
 
-    fn least(prices: PriceFile, file: &[u8], costs: &mut [u64]) -> Result<u32, Refusal> {
+    fn least(prices: PriceFile, upload: Upload, file: &[u8], costs: &mut [u64]) -> Result<u32, Refusal> {
         let (log, length) = (file.as_ptr(), file.len());
-        let answer = match prices {
-            None => unsafe { caching_least(log, length, costs.as_mut_ptr(), costs.len()) },
-            Some(file) => unsafe { caching_least_with(file.as_ptr(), file.len(), log, length, costs.as_mut_ptr(), costs.len()) },
+        let (costs, costs_length) = (costs.as_mut_ptr(), costs.len());
+        let answer = match (prices, upload) {
+            (None, None) => unsafe { caching_least(log, length, costs, costs_length) },
+            (None, Some(price)) => unsafe { caching_least_uploads(price, log, length, costs, costs_length) },
+            (Some(file), None) => unsafe { caching_least_with(file.as_ptr(), file.len(), log, length, costs, costs_length) },
+            (Some(file), Some(price)) => unsafe {
+                caching_least_uploads_with(file.as_ptr(), file.len(), price, log, length, costs, costs_length)
+            },
         };
         answer.value().map(|count| count.try_into().unwrap())
     }

@@ -1,5 +1,6 @@
 -- `checker::checking::check` meets its contract. Assumes nothing.
 use Rattle.prices.specs.FileLaws.{built-in-given, built-in-priced}
+use Rattle.prices.specs.Uploads.{if-given}
 use borrow.Author.Needs.{needs}
 use Rattle.checker.proofs.checking.check.Statement.{statement}
 use Rattle.checker.proofs.checking.check.Tie as tie
@@ -14,6 +15,7 @@ check-by-requires : tie.Need-check-by-requires
 check-by-requires c κs = built-in-priced _ (c .before .built-in .ensures)
 
 returns : tie.Need-returns
+unfolding if-given
 returns c = rw (built-in-given _ (c .before .before .built-in .ensures)) (c .check-by .ensures)
 
 pub check-spec : {M : Type 1} → statement M

@@ -1,5 +1,6 @@
 -- `checker::checking::check_with` meets its contract. Assumes nothing.
 use Rattle.prices.specs.FileLaws.{judged-priced}
+use Rattle.prices.specs.Uploads.{if-given}
 use borrow.Author.Needs.{needs}
 use Rattle.checker.proofs.checking.check_with.Statement.{statement}
 use Rattle.checker.proofs.checking.check_with.Tie as tie
@@ -11,6 +12,7 @@ check-by-requires : tie.Need-check-by-requires
 check-by-requires c κs = judged-priced _ _ (c .file-fault .ensures)
 
 returns : tie.Need-returns
+unfolding if-given
 returns c = rw (← c .before .file-fault .ensures) (c .check-by .ensures)
 
 pub check-with-spec : {M : Type 1} → statement M

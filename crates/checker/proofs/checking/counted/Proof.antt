@@ -4,7 +4,7 @@ use mathlib.Core.Path.{_≡_, refl, _∙_}
 use Prim.Native.Nat.{_≤_, _-_}
 use native.Mathlib.Omega.{arith}
 use Rattle.model.specs.Sums.{total}
-use Rattle.model.specs.Schedule.{length-of, is-transfer}
+use Rattle.model.specs.Schedule.{length-of, is-transfer, is-upload}
 use Rattle.model.specs.RowForm.{rows-upto, rows-of}
 use Rattle.model.specs.Checking.{row-count}
 use Rattle.checker.specs.CostLaws.{total-read, total-within}
@@ -12,14 +12,14 @@ use Rattle.checker.proofs.checking.counted.Statement.{statement}
 use Rattle.checker.proofs.checking.counted.Tie as tie
 
 abbrev Inv-loop : tie.InvT-loop
-Inv-loop ns n s₀ i₀ s i = (i ≤ n) × (s .seconds ≡ total length-of (rows-upto ns i)) × (s .transfers ≡ total is-transfer (rows-upto ns i))
+Inv-loop ns n s₀ i₀ s i = (i ≤ n) × (s .seconds ≡ total length-of (rows-upto ns i)) × (s .transfers ≡ total is-transfer (rows-upto ns i)) × (s .uploads ≡ total is-upload (rows-upto ns i))
 
 abbrev μ-loop : tie.MeasureT-loop
 μ-loop ns n s₀ i₀ s i = n - i
 
 loop-holds : tie.Need-loop-holds Inv-loop μ-loop
 unfolding rows-upto total
-loop-holds c = (search needs, refl, refl)
+loop-holds c = (search needs, refl, refl, refl)
 
 row-requires : tie.Need-row-requires Inv-loop μ-loop
 row-requires c κs = search needs
@@ -31,6 +31,7 @@ with-row-requires c κs =
     let l = c .before .before .loop in (
       omega (arith, total-within length-of ns (l .i) _ _ (search needs) (c .row .ensures) (l .inv .1)),
       omega (arith, total-within is-transfer ns (l .i) _ _ (search needs) (c .row .ensures) (l .inv .2)),
+      omega (arith, total-within is-upload ns (l .i) _ _ (search needs) (c .row .ensures) (l .inv .3)),
     )
 
 add-i : tie.Need-add-i Inv-loop μ-loop
@@ -46,6 +47,7 @@ loop-again c =
       search needs,
       c .with-row .ensures .0 ∙ total-read length-of ns (l .i) _ _ (c .before .row .ensures) (l .inv .1),
       c .with-row .ensures .1 ∙ total-read is-transfer ns (l .i) _ _ (c .before .row .ensures) (l .inv .2),
+      c .with-row .ensures .2 ∙ total-read is-upload ns (l .i) _ _ (c .before .row .ensures) (l .inv .3),
     )
 
 returns : tie.Need-returns Inv-loop μ-loop
@@ -54,7 +56,7 @@ returns c =
     let ns = c .before .before .before .args .ns .now in
     let l = c .before .loop in
     let e : l .i ≡ row-count ns = omega arith in
-    rw (← e) (l .inv .1, l .inv .2)
+    rw (← e) (l .inv .1, l .inv .2, l .inv .3)
 
 pub counted-spec : {M : Type 1} → statement M
 counted-spec =

@@ -1,15 +1,17 @@
 -- `checker::checking::seconds` meets its contract. Assumes nothing.
 use borrow.Author.Needs.{needs}
-use borrow.Author.Tests.{eq-eqb, ne-eqb}
+use mathlib.Core.Path.{_≡_, refl}
+use borrow.Author.Tests.{eq-eqb}
 use native.Mathlib.Omega.{arith}
 use Rattle.model.specs.RowForm.{row-of}
 use Rattle.model.specs.Schedule.{length-of}
+use Rattle.checker.specs.ReadingLaws.{not-hold}
 use Rattle.checker.proofs.checking.seconds.Statement.{statement}
 use Rattle.checker.proofs.checking.seconds.Tie as tie
 
 returns : tie.Need-returns
-unfolding row-of length-of
-returns c = rw (ne-eqb _ _ (c .if1 .taken))
+unfolding length-of
+returns c = not-hold (λ r. 0 ≡ length-of r) _ _ _ _ (c .if1 .taken) refl refl
 
 returns-2 : tie.Need-returns-2
 unfolding row-of length-of

@@ -1,17 +1,17 @@
 -- `checker::checking::transfers` meets its contract. Assumes nothing.
-use borrow.Author.Tests.{eq-eqb, ne-eqb}
-use Rattle.model.specs.RowForm.{row-of}
+use mathlib.Core.Path.{_≡_, refl}
 use Rattle.model.specs.Schedule.{is-transfer}
+use Rattle.checker.specs.ReadingLaws.{row-transfer, not-transfer}
 use Rattle.checker.proofs.checking.transfers.Statement.{statement}
 use Rattle.checker.proofs.checking.transfers.Tie as tie
 
 returns : tie.Need-returns
-unfolding row-of is-transfer
-returns c = rw (eq-eqb _ _ (c .if1 .taken))
+unfolding is-transfer
+returns c = not-transfer (λ r. 0 ≡ is-transfer r) _ _ _ _ (c .if1 .taken) refl refl
 
 returns-2 : tie.Need-returns-2
-unfolding row-of is-transfer
-returns-2 c = rw (ne-eqb _ _ (c .if1 .left))
+unfolding is-transfer
+returns-2 c = rw (row-transfer _ _ _ _ (c .if1 .left))
 
 pub transfers-spec : {M : Type 1} → statement M
 transfers-spec = tie.close (tie.spec returns returns-2)

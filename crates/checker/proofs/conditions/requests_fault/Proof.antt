@@ -10,16 +10,19 @@ use Rattle.base.specs.RefusalLaws.{each-refused}
 use Rattle.base.specs.declared.Verdict.the-variants.{Passed}
 use Rattle.log.specs.ConditionLaws.{each-more}
 use Rattle.log.specs.Fields.{request-count, length-for}
-use Rattle.checker.specs.Quick.{serve-test}
+use Rattle.checker.specs.Quick.{first-upload, serve-test}
 use Rattle.checker.specs.QuickSteps.{serve-found}
 use Rattle.checker.proofs.conditions.requests_fault.Statement.{statement}
 use Rattle.checker.proofs.conditions.requests_fault.Tie as tie
 
 abbrev Inv-loop : tie.InvT-loop
-Inv-loop log ns hints₀ n i₀ hints i = (i ≤ n) × (first (each (serve-test log ns) i) ≡ Passed)
+Inv-loop log ns hints₀ uploads n i₀ hints i = (i ≤ n) × (first (each (serve-test log ns) i) ≡ Passed)
 
 abbrev μ-loop : tie.MeasureT-loop
-μ-loop log ns hints₀ n i₀ hints i = n - i
+μ-loop log ns hints₀ uploads n i₀ hints i = n - i
+
+from-upload-requires : tie.Need-from-upload-requires Inv-loop μ-loop
+from-upload-requires c κs = search needs
 
 at16-requires : tie.Need-at16-requires Inv-loop μ-loop
 at16-requires c κs = search needs
@@ -29,7 +32,7 @@ unfolding first each
 loop-holds c = (search needs, refl)
 
 served-requires : tie.Need-served-requires Inv-loop μ-loop
-unfolding request-count length-for
+unfolding request-count length-for first-upload
 served-requires c κs = search needs
 
 size-from-u16-requires : tie.Need-size-from-u16-requires Inv-loop μ-loop
@@ -41,7 +44,7 @@ place-requires c κs = search needs
 returns : tie.Need-returns Inv-loop μ-loop
 unfolding request-count
 returns c =
-    let a = c .before .before .before .before .before .before .before .before .before .before .args in
+    let a = c .before .before .before .before .before .before .before .before .before .before .before .before .args in
     let l = c .before .before .before .before .before .before .loop in
     let f = serve-test (a .log .now) (a .ns .now) in
     rw (c .place .ensures, c .before .size-from-u16 .ensures .0)
@@ -55,7 +58,7 @@ loop-less c = search needs
 
 loop-again : tie.Need-loop-again Inv-loop μ-loop
 loop-again c =
-    let a = c .before .before .before .before .before .before .before .before .args in
+    let a = c .before .before .before .before .before .before .before .before .before .before .args in
     let l = c .before .before .before .before .loop in
     let f = serve-test (a .log .now) (a .ns .now) in
     (search needs, rw (add-one (l .i)) (each-more f (l .i) (l .inv .1) (rw (not-false (c .before .served .result) (c .if1 .left)) at (serve-found (a .log .now) (a .ns .now) (l .i) _ (c .before .served .ensures)))))
@@ -64,7 +67,7 @@ returns-2 : tie.Need-returns-2 Inv-loop μ-loop
 unfolding request-count
 returns-2 c =
     let l = c .before .loop in
-    let e : l .i ≡ request-count (c .before .before .before .before .before .args .log .now) = omega arith in
+    let e : l .i ≡ request-count (c .before .before .before .before .before .before .before .args .log .now) = omega arith in
     sym (rw e at (l .inv .1))
 
 pub requests-fault-spec : {M : Type 1} → statement M
@@ -73,6 +76,7 @@ requests-fault-spec =
     (tie.spec
     Inv-loop
     μ-loop
+    from-upload-requires
     at16-requires
     loop-holds
     served-requires

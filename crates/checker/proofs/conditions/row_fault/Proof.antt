@@ -29,7 +29,7 @@ returns : tie.Need-returns
 returns c =
     let a = c .before .before .before .before .before .before .before .args in
     rw (c .or-else2 .ensures, c .before .before .or-else .ensures, c .before .misplaced .ensures)
-    (sym (row-found (a .count) (a .n) (a .last) (a .ns .now) (a .i) _ _ _ (c .before .before .before .before .before .place .ensures) (c .before .before .before .before .row .ensures) (c .before .before .before .misfits .ensures)))
+    (sym (row-found (a .given) (a .count) (a .n) (a .last) (a .ns .now) (a .i) _ _ _ (c .before .before .before .before .before .place .ensures) (c .before .before .before .before .row .ensures) (c .before .before .before .misfits .ensures)))
 
 pub row-fault-spec : {M : Type 1} → statement M
 row-fault-spec =

@@ -14,10 +14,10 @@ use Rattle.checker.proofs.conditions.rows_fault.Statement.{statement}
 use Rattle.checker.proofs.conditions.rows_fault.Tie as tie
 
 abbrev Inv-loop : tie.InvT-loop
-Inv-loop ns count n last rows i₀ i = (i ≤ rows) × (first (each (row-tests count n last ns) i) ≡ Passed)
+Inv-loop ns given count n last rows i₀ i = (i ≤ rows) × (first (each (row-tests given count n last ns) i) ≡ Passed)
 
 abbrev μ-loop : tie.MeasureT-loop
-μ-loop ns count n last rows i₀ i = rows - i
+μ-loop ns given count n last rows i₀ i = rows - i
 
 loop-holds : tie.Need-loop-holds Inv-loop μ-loop
 unfolding first each
@@ -35,7 +35,7 @@ unfolding row-count
 returns c =
     let a = c .before .before .before .before .before .before .before .args in
     let l = c .before .before .before .before .before .loop in
-    let f = row-tests (a .count) (a .n) (a .last) (a .ns .now) in
+    let f = row-tests (a .given) (a .count) (a .n) (a .last) (a .ns .now) in
     sym (each-refused f (l .i) (row-count (a .ns .now)) _ (search needs) (l .inv .1) (sym (c .before .before .before .row-fault .ensures) ∙ c .before .v .given .1))
 
 enum-told : tie.Need-enum-told Inv-loop μ-loop
@@ -51,7 +51,7 @@ loop-again : tie.Need-loop-again Inv-loop μ-loop
 loop-again c =
     let a = c .before .before .before .before .before .before .args in
     let l = c .before .before .before .before .loop in
-    let f = row-tests (a .count) (a .n) (a .last) (a .ns .now) in
+    let f = row-tests (a .given) (a .count) (a .n) (a .last) (a .ns .now) in
     (search needs, rw (add-one (l .i)) (each-more f (l .i) (l .inv .1) (sym (c .before .before .row-fault .ensures) ∙ c .enum-told .given .1)))
 
 returns-2 : tie.Need-returns-2 Inv-loop μ-loop

@@ -13,7 +13,7 @@ returns : tie.Need-returns
 unfolding first
 returns c =
     let a = c .before .before .before .args in
-    rw (schedule-parts (a .log .now) (a .ns .now), ne-eqb _ _ (c .if1 .taken))
+    rw (schedule-parts (a .given) (a .log .now) (a .ns .now), ne-eqb _ _ (c .if1 .taken))
 
 at-requires : tie.Need-at-requires
 at-requires c κs = search needs
@@ -38,9 +38,9 @@ unfolding first server-count request-count
 returns-2 c =
     let a = c .before .before .before .before .before .before .before .before .before .before .before .args in
     rw (
-      schedule-parts (a .log .now) (a .ns .now),
+      schedule-parts (a .given) (a .log .now) (a .ns .now),
       eq-eqb _ _ (c .before .before .before .before .before .before .before .before .if1 .left),
-      row-part-read (a .log .now) (a .ns .now) _ _ _ _ (c .before .before .before .before .before .before .u32-from-u8 .ensures .0 ∙ c .before .before .before .before .before .before .before .at .ensures) (c .before .before .before .before .before .at16 .ensures) (c .before .before .before .before .last-second .ensures) (c .before .before .before .rows-fault .ensures),
+      row-part-read (a .given) (a .log .now) (a .ns .now) _ _ _ _ (c .before .before .before .before .before .before .u32-from-u8 .ensures .0 ∙ c .before .before .before .before .before .before .before .at .ensures) (c .before .before .before .before .before .at16 .ensures) (c .before .before .before .before .last-second .ensures) (c .before .before .before .rows-fault .ensures),
       c .before .v .given .1,
     )
 
@@ -58,8 +58,8 @@ unfolding server-count request-count
 copies-fault-requires c κs =
     let s = c .before .before .before .before .before .before .before .before .before .before .before .before in
     let count = c .before .before .before .before .before .before .before .u32-from-u8 .ensures .0 ∙ c .before .before .before .before .before .before .before .before .at .ensures in
-    in-order (s .args .log .now) (s .args .ns .now) (s .pre)
-    (row-part-read (s .args .log .now) (s .args .ns .now) _ _ _ _ count (c .before .before .before .before .before .before .at16 .ensures) (c .before .before .before .before .before .last-second .ensures) (c .before .before .before .before .rows-fault .ensures) ∙ c .before .before .enum-told .given .1)
+    in-order (s .args .log .now) (s .args .ns .now) (s .pre) (s .args .given)
+    (row-part-read (s .args .given) (s .args .log .now) (s .args .ns .now) _ _ _ _ count (c .before .before .before .before .before .before .at16 .ensures) (c .before .before .before .before .before .last-second .ensures) (c .before .before .before .before .rows-fault .ensures) ∙ c .before .before .enum-told .given .1)
 
 enum-known-v-2 : tie.Need-enum-known-v-2
 enum-known-v-2 c = search needs
@@ -70,9 +70,9 @@ returns-3 c =
     let a = c .before .before .before .before .before .before .before .before .before .before .before .before .before .before .before .before .args in
     let count = c .before .before .before .before .before .before .before .before .before .before .before .u32-from-u8 .ensures .0 ∙ c .before .before .before .before .before .before .before .before .before .before .before .before .at .ensures in
     rw (
-      schedule-parts (a .log .now) (a .ns .now),
+      schedule-parts (a .given) (a .log .now) (a .ns .now),
       eq-eqb _ _ (c .before .before .before .before .before .before .before .before .before .before .before .before .before .if1 .left),
-      row-part-read (a .log .now) (a .ns .now) _ _ _ _ count (c .before .before .before .before .before .before .before .before .before .before .at16 .ensures) (c .before .before .before .before .before .before .before .before .before .last-second .ensures) (c .before .before .before .before .before .before .before .before .rows-fault .ensures),
+      row-part-read (a .given) (a .log .now) (a .ns .now) _ _ _ _ count (c .before .before .before .before .before .before .before .before .before .before .at16 .ensures) (c .before .before .before .before .before .before .before .before .before .last-second .ensures) (c .before .before .before .before .before .before .before .before .rows-fault .ensures),
       c .before .before .before .before .before .before .enum-told .given .1,
       copy-part-read (a .log .now) (a .ns .now) _ _ _ count (c .before .before .before .before .u32-from-u82 .ensures .0 ∙ c .before .before .before .before .before .at2 .ensures) (c .before .before .before .copies-fault .ensures),
       c .before .v2 .given .1,
@@ -86,8 +86,8 @@ unfolding server-count request-count
 requests-fault-requires c κs =
     let s = c .before .before .before .before .before .before .before .before .before .before .before .before .before .before .before in
     let count = c .before .before .before .before .before .before .before .before .before .before .u32-from-u8 .ensures .0 ∙ c .before .before .before .before .before .before .before .before .before .before .before .at .ensures in (
-      in-order (s .args .log .now) (s .args .ns .now) (s .pre)
-          (row-part-read (s .args .log .now) (s .args .ns .now) _ _ _ _ count (c .before .before .before .before .before .before .before .before .before .at16 .ensures) (c .before .before .before .before .before .before .before .before .last-second .ensures) (c .before .before .before .before .before .before .before .rows-fault .ensures) ∙ c .before .before .before .before .before .enum-told .given .1),
+      in-order (s .args .log .now) (s .args .ns .now) (s .pre) (s .args .given)
+          (row-part-read (s .args .given) (s .args .log .now) (s .args .ns .now) _ _ _ _ count (c .before .before .before .before .before .before .before .before .before .at16 .ensures) (c .before .before .before .before .before .before .before .before .last-second .ensures) (c .before .before .before .before .before .before .before .rows-fault .ensures) ∙ c .before .before .before .before .before .enum-told .given .1),
       s .pre .length-is,
     )
 
@@ -97,9 +97,9 @@ returns-4 c =
     let a = c .before .before .before .before .before .before .before .before .before .before .before .before .before .before .before .before .args in
     let count = c .before .before .before .before .before .before .before .before .before .before .before .u32-from-u8 .ensures .0 ∙ c .before .before .before .before .before .before .before .before .before .before .before .before .at .ensures in
     rw (
-      schedule-parts (a .log .now) (a .ns .now),
+      schedule-parts (a .given) (a .log .now) (a .ns .now),
       eq-eqb _ _ (c .before .before .before .before .before .before .before .before .before .before .before .before .before .if1 .left),
-      row-part-read (a .log .now) (a .ns .now) _ _ _ _ count (c .before .before .before .before .before .before .before .before .before .before .at16 .ensures) (c .before .before .before .before .before .before .before .before .before .last-second .ensures) (c .before .before .before .before .before .before .before .before .rows-fault .ensures),
+      row-part-read (a .given) (a .log .now) (a .ns .now) _ _ _ _ count (c .before .before .before .before .before .before .before .before .before .before .at16 .ensures) (c .before .before .before .before .before .before .before .before .before .last-second .ensures) (c .before .before .before .before .before .before .before .before .rows-fault .ensures),
       c .before .before .before .before .before .before .enum-told .given .1,
       copy-part-read (a .log .now) (a .ns .now) _ _ _ count (c .before .before .before .before .u32-from-u82 .ensures .0 ∙ c .before .before .before .before .before .at2 .ensures) (c .before .before .before .copies-fault .ensures),
       c .before .enum-told2 .given .1,

@@ -1,17 +1,18 @@
 -- `checker::copies::aims` meets its contract. Assumes nothing.
-use borrow.Author.Tests.{eq-eqb, ne-eqb}
-use Rattle.model.specs.RowForm.{row-of}
+use mathlib.Core.Bool.{false}
+use mathlib.Core.Path.{_≡_, refl}
 use Rattle.checker.specs.Quick.{aims}
+use Rattle.checker.specs.ReadingLaws.{row-transfer, not-transfer}
 use Rattle.checker.proofs.copies.aims.Statement.{statement}
 use Rattle.checker.proofs.copies.aims.Tie as tie
 
 returns : tie.Need-returns
-unfolding row-of aims
-returns c = rw (eq-eqb _ _ (c .if1 .taken))
+unfolding aims
+returns c = let a = c .before .before .args in not-transfer (λ r. false ≡ aims (a .x) r) _ _ _ _ (c .if1 .taken) refl refl
 
 returns-2 : tie.Need-returns-2
-unfolding row-of aims
-returns-2 c = rw (ne-eqb _ _ (c .before .if1 .left))
+unfolding aims
+returns-2 c = rw (row-transfer _ _ _ _ (c .before .if1 .left))
 
 pub aims-spec : {M : Type 1} → statement M
 aims-spec = tie.close (tie.spec returns returns-2)

@@ -23,8 +23,16 @@ aimed-requires c κs = search needs
 
 returns-2 : tie.Need-returns-2
 returns-2 c =
-    let a = c .before .before .before .before .before .before .before .before .args in
-    rw (fed-read (a .home) (a .ns .now) (a .t) (a .x) _ _ _ _ (c .before .before .before .from-second .ensures) (c .before .after-second .ensures) (c .before .before .before .before .before .before .begins .ensures) (c .aimed .ensures), c .before .before .before .before .before .if1 .left)
+    let a = c .before .before .before .before .before .before .before .before .before .args in
+    rw (fed-read (a .home) (a .ns .now) (a .t) (a .x) _ _ _ _ (c .before .before .before .before .from-second .ensures) (c .before .before .after-second .ensures) (c .before .before .before .before .before .before .before .begins .ensures) (c .before .aimed .ensures), c .before .before .before .before .before .before .if1 .left, c .if2 .taken)
+
+loaded-requires : tie.Need-loaded-requires
+loaded-requires c κs = search needs
+
+returns-3 : tie.Need-returns-3
+returns-3 c =
+    let a = c .before .before .before .before .before .before .before .before .before .before .before .args in
+    rw (fed-read (a .home) (a .ns .now) (a .t) (a .x) _ _ _ _ (c .before .before .before .before .before .before .from-second .ensures) (c .before .before .before .before .after-second .ensures) (c .before .before .before .before .before .before .before .before .before .begins .ensures) (c .before .before .before .aimed .ensures), c .before .before .before .before .before .before .before .before .if1 .left, c .before .before .if2 .left) (c .loaded .ensures)
 
 pub fed-spec : {M : Type 1} → statement M
 fed-spec =
@@ -35,4 +43,6 @@ fed-spec =
     from-second-requires
     after-second-requires
     aimed-requires
-    returns-2)
+    returns-2
+    loaded-requires
+    returns-3)

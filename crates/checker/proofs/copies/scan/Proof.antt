@@ -5,17 +5,19 @@ use native.Mathlib.Nat.{sub-self}
 use native.Mathlib.Omega.{arith}
 use Prim.Native.Nat.{_≤_, _-_}
 use Rattle.model.specs.Checking.{row-count}
-use Rattle.checker.specs.Quick.{standing-at, starved, unbacked}
+use Rattle.checker.specs.Quick.{first-upload, standing-at, starved, unbacked}
 use Rattle.checker.specs.QuickHolds.{lower-within}
 use Rattle.checker.specs.CopySteps.{starved-more, unbacked-more}
+use Rattle.checker.specs.Search.{upload-key}
+use Rattle.checker.specs.SearchLaws.{position-most}
 use Rattle.checker.proofs.copies.scan.Statement.{statement}
 use Rattle.checker.proofs.copies.scan.Tie as tie
 
 abbrev Inv-loop : tie.InvT-loop
-Inv-loop ns hints₀ count home from rows seen₀ low₀ late₀ i₀ hints seen low late i = (from ≤ i) × (i - from ≤ rows - from) × (low ≤ rows) × (low ≡ starved count home ns from (i - from)) × (late ≡ unbacked count home ns from (i - from)) × (seen .word ≡ standing-at count home ns (seen .second))
+Inv-loop ns hints₀ uploads count home from rows seen₀ low₀ late₀ i₀ hints seen low late i = (from ≤ i) × (i - from ≤ uploads - from) × (low ≤ rows) × (low ≡ starved count home ns from (i - from)) × (late ≡ unbacked count home ns from (i - from)) × (seen .word ≡ standing-at count home ns (seen .second))
 
 abbrev μ-loop : tie.MeasureT-loop
-μ-loop ns hints₀ count home from rows seen₀ low₀ late₀ i₀ hints seen low late i = rows - i
+μ-loop ns hints₀ uploads count home from rows seen₀ low₀ late₀ i₀ hints seen low late i = uploads - i
 
 standing-requires : tie.Need-standing-requires Inv-loop μ-loop
 standing-requires c κs = search needs
@@ -26,8 +28,11 @@ loop-holds c =
     let a = c .before .before .before .args in
     rw (sub-self (a .from)) (search needs, search needs, search needs, refl, refl, c .standing .ensures)
 
-row-requires : tie.Need-row-requires Inv-loop μ-loop
-row-requires c κs = search needs
+whole-requires : tie.Need-whole-requires Inv-loop μ-loop
+unfolding first-upload row-count
+whole-requires c κs =
+    let s = c .before .before .before .before .before in
+    omega (arith, s .pre .1, position-most (s .args .ns .now) (upload-key 0 0))
 
 second-requires : tie.Need-second-requires Inv-loop μ-loop
 second-requires c κs = search needs
@@ -63,8 +68,8 @@ loop-again c =
       search needs,
       search needs,
       rw (c .before .before .lower .ensures) (lower-within _ (l .low) _ (l .inv .2)),
-      starved-more (a .count) (a .home) (a .ns .now) (a .from) (l .i) (l .low) _ _ _ _ _ (l .inv .0) (l .inv .3) (c .before .before .before .before .before .before .before .before .row .ensures) second now (c .before .before .before .unfed .ensures) (c .before .before .lower .ensures),
-      unbacked-more (a .count) (a .home) (a .ns .now) (a .from) (l .i) (l .late) _ _ _ _ (l .inv .0) (l .inv .4) (c .before .before .before .before .before .before .before .before .row .ensures) second now (rw (← c .before .unbacked .ensures) (c .lower2 .ensures)),
+      starved-more (a .count) (a .home) (a .ns .now) (a .from) (l .i) (l .low) _ _ _ _ _ (l .inv .0) (l .inv .3) (c .before .before .before .before .before .before .before .before .whole .ensures) second now (c .before .before .before .unfed .ensures) (c .before .before .lower .ensures),
+      unbacked-more (a .count) (a .home) (a .ns .now) (a .from) (l .i) (l .late) _ _ _ _ (l .inv .0) (l .inv .4) (c .before .before .before .before .before .before .before .before .whole .ensures) second now (rw (← c .before .unbacked .ensures) (c .lower2 .ensures)),
       now,
     )
 
@@ -73,7 +78,7 @@ unfolding row-count
 returns c =
     let l = c .before .loop in
     let a = c .before .before .before .before .before .args in
-    let e : l .i - a .from ≡ row-count (a .ns .now) - a .from = omega arith in
+    let e : l .i - a .from ≡ a .uploads - a .from = omega arith in
     (rw e at (l .inv .3), rw e at (l .inv .4))
 
 pub scan-spec : {M : Type 1} → statement M
@@ -84,7 +89,7 @@ scan-spec =
     μ-loop
     standing-requires
     loop-holds
-    row-requires
+    whole-requires
     second-requires
     seen-at-requires
     unfed-requires

@@ -8,7 +8,7 @@ use Rattle.checker.proofs.copies.seen_at.Tie as tie
 returns : tie.Need-returns
 returns c =
     let s = c .before .before .before in
-    (c .if1 .taken, s .pre .1 ∙ ap (standing-at (s .args .count) (s .args .home) (s .args .ns .now)) (c .if1 .taken))
+    (c .if1 .taken, s .pre .2 ∙ ap (standing-at (s .args .count) (s .args .home) (s .args .ns .now)) (c .if1 .taken))
 
 standing-requires : tie.Need-standing-requires
 standing-requires c κs = search needs

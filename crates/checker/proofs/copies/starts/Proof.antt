@@ -1,13 +1,16 @@
 -- `checker::copies::starts` meets its contract. Assumes nothing.
+use mathlib.Core.Bool.{false}
+use mathlib.Core.Path.{_≡_, refl}
 use borrow.Author.Tests.{eq-eqb, ne-eqb}
 use Rattle.model.specs.RowForm.{row-of}
 use Rattle.checker.specs.Quick.{starts}
+use Rattle.checker.specs.ReadingLaws.{not-hold}
 use Rattle.checker.proofs.copies.starts.Statement.{statement}
 use Rattle.checker.proofs.copies.starts.Tie as tie
 
 returns : tie.Need-returns
-unfolding row-of starts
-returns c = rw (ne-eqb _ _ (c .if1 .taken))
+unfolding starts
+returns c = let a = c .before .before .args in not-hold (λ r. false ≡ starts (a .t) (a .x) r) _ _ _ _ (c .if1 .taken) refl refl
 
 returns-2 : tie.Need-returns-2
 unfolding row-of starts

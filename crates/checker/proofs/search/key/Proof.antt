@@ -1,9 +1,8 @@
--- `checker::search::key` meets its contract. Assumes nothing.
 use borrow.Author.Needs.{needs}
-use borrow.Author.Tests.{eq-eqb, ne-eqb}
 use native.Mathlib.Omega.{arith}
-use Rattle.model.specs.RowForm.{row-of}
-use Rattle.checker.specs.Search.{key, hold-key, second-key}
+use Rattle.checker.specs.Search.{key, hold-key}
+use Rattle.checker.specs.SearchLaws.{move-key}
+use Rattle.checker.specs.ReadingLaws.{row-hold}
 use Rattle.checker.proofs.search.key.Statement.{statement}
 use Rattle.checker.proofs.search.key.Tie as tie
 
@@ -20,8 +19,14 @@ add-result : tie.Need-add-result
 add-result c = search needs
 
 returns : tie.Need-returns
-unfolding row-of key hold-key
-returns c = rw (eq-eqb _ _ (c .before .before .if1 .taken)) (omega arith)
+unfolding key hold-key
+returns c = rw (row-hold _ _ _ _ (c .before .before .if1 .taken)) (omega arith)
+
+base-requires : tie.Need-base-requires
+base-requires c κs = search needs
+
+second-requires : tie.Need-second-requires
+second-requires c κs = search needs
 
 u64-from-u32-requires-3 : tie.Need-u64-from-u32-requires-3
 u64-from-u32-requires-3 c κs = search needs
@@ -48,8 +53,10 @@ add-result-4 : tie.Need-add-result-4
 add-result-4 c = search needs
 
 returns-2 : tie.Need-returns-2
-unfolding row-of key second-key
-returns-2 c = rw (ne-eqb _ _ (c .before .before .before .if1 .left)) (omega arith)
+returns-2 c =
+    let r = c .before .before .before .before .before .before .before .args .r in
+    rw (c .before .before .before .before .base .ensures .0, c .before .before .u64-from-u323 .ensures .0, c .before .before .before .second .ensures, c .before .u64-from-u324 .ensures .0, c .u64-from-u325 .ensures .0)
+    (move-key (r .kind) (r .a) (r .b) (r .c) (c .before .before .before .before .before .if1 .left))
 
 pub key-spec : {M : Type 1} → statement M
 key-spec =
@@ -60,6 +67,8 @@ key-spec =
     u64-from-u32-requires-2
     add-result
     returns
+    base-requires
+    second-requires
     u64-from-u32-requires-3
     mul-result-2
     add-result-2

@@ -21,8 +21,8 @@ loop-holds c =
     let a = c .before .args in
     rw (sub-self (a .from)) (search needs, search needs, refl)
 
-row-requires : tie.Need-row-requires Inv-loop μ-loop
-row-requires c κs = search needs
+whole-requires : tie.Need-whole-requires Inv-loop μ-loop
+whole-requires c κs = search needs
 
 arrival-requires : tie.Need-arrival-requires Inv-loop μ-loop
 arrival-requires c κs = search needs
@@ -39,7 +39,7 @@ loop-again c =
     let a = c .before .before .before .before .before .args in (
       search needs,
       search needs,
-      along-more (a .ns .now) (a .t) (a .from) (a .start) (l .i) (l .w) _ _ (l .inv .0) (l .inv .2) (c .before .row .ensures) (c .arrival .ensures),
+      along-more (a .ns .now) (a .t) (a .from) (a .start) (l .i) (l .w) _ _ (l .inv .0) (l .inv .2) (c .before .whole .ensures) (c .arrival .ensures),
     )
 
 returns : tie.Need-returns Inv-loop μ-loop
@@ -56,7 +56,7 @@ along-spec =
     Inv-loop
     μ-loop
     loop-holds
-    row-requires
+    whole-requires
     arrival-requires
     add-i
     loop-less

@@ -1,13 +1,16 @@
 -- `checker::standing::covers` meets its contract. Assumes nothing.
+use mathlib.Core.Bool.{false}
+use mathlib.Core.Path.{_≡_, refl}
 use borrow.Author.Tests.{eq-eqb, ne-eqb, lt-ltb, le-ltb}
 use Rattle.model.specs.RowForm.{row-of}
 use Rattle.checker.specs.Quick.{covers}
+use Rattle.checker.specs.ReadingLaws.{not-hold}
 use Rattle.checker.proofs.standing.covers.Statement.{statement}
 use Rattle.checker.proofs.standing.covers.Tie as tie
 
 returns : tie.Need-returns
-unfolding row-of covers
-returns c = rw (ne-eqb _ _ (c .if1 .taken))
+unfolding covers
+returns c = let a = c .before .before .args in not-hold (λ r. false ≡ covers (a .t) (a .x) r) _ _ _ _ (c .if1 .taken) refl refl
 
 returns-2 : tie.Need-returns-2
 unfolding row-of covers

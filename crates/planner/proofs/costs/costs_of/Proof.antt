@@ -11,6 +11,7 @@ use native.Mathlib.Numerals.{add-one}
 use native.Mathlib.Omega.{arith}
 use Prim.Native.Nat.{ℕ, suc, _+_, _≤_}
 use borrow.Author.Needs.{needs}
+use Rattle.planner.specs.Fees.{rated}
 use Rattle.planner.proofs.costs.costs_of.Statement.{statement}
 use Rattle.planner.proofs.costs.costs_of.Tie as tie
 
@@ -62,7 +63,7 @@ returns-2 c =
       rw v
           (c .before .before .before .clear64 .ensures
           ∙ ap₂ (λ (k : ℕ) (o : List ℕ). cleared k o) e (c .before .before .before .before .before .before .before .before .fill .ensures .0)
-          ∙ costs-lent (a .summary .prices) (asks (a .seconds .now) (a .servers .now)) n (a .costs .now) l),
+          ∙ costs-lent (rated (a .summary .fees)) (asks (a .seconds .now) (a .servers .now)) n (a .costs .now) l),
     )
 
 pub costs-of-spec : {M : Type 1} → statement M

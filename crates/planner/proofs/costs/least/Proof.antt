@@ -1,5 +1,6 @@
 -- `planner::costs::least` meets its contract. Assumes nothing.
 use Rattle.prices.specs.FileLaws.{built-in-given, built-in-priced}
+use Rattle.prices.specs.Uploads.{if-given}
 use borrow.Author.Needs.{needs}
 use Rattle.planner.proofs.costs.least.Statement.{statement}
 use Rattle.planner.proofs.costs.least.Tie as tie
@@ -17,6 +18,7 @@ same-length : tie.Need-same-length
 same-length c = search needs
 
 returns : tie.Need-returns
+unfolding if-given
 returns c = rw (built-in-given _ (c .before .before .before .before .before .built-in .ensures)) (c .before .before .least-by .ensures)
 
 pub least-spec : {M : Type 1} → statement M

@@ -1,5 +1,6 @@
 -- `planner::costs::least_with` meets its contract. Assumes nothing.
 use Rattle.prices.specs.FileLaws.{judged-priced}
+use Rattle.prices.specs.Uploads.{if-given}
 use borrow.Author.Needs.{needs}
 use Rattle.planner.proofs.costs.least_with.Statement.{statement}
 use Rattle.planner.proofs.costs.least_with.Tie as tie
@@ -14,6 +15,7 @@ same-length : tie.Need-same-length
 same-length c = search needs
 
 returns : tie.Need-returns
+unfolding if-given
 returns c = rw (← c .before .before .before .before .file-fault .ensures) (c .before .before .least-by .ensures)
 
 pub least-with-spec : {M : Type 1} → statement M

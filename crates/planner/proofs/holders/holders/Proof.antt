@@ -48,6 +48,9 @@ kept-step-requires c κs = search needs
 server-requires-2 : tie.Need-server-requires-2 Inv-loop μ-loop
 server-requires-2 c κs = search needs
 
+loaded-requires : tie.Need-loaded-requires Inv-loop μ-loop
+loaded-requires c κs = search needs
+
 or-server-requires : tie.Need-or-server-requires Inv-loop μ-loop
 or-server-requires c κs = search needs
 
@@ -62,7 +65,7 @@ loop-less c = search needs
 
 loop-again : tie.Need-loop-again Inv-loop μ-loop
 loop-again c =
-    let p = c .before .before in
+    let p = c .before .before .before in
     let l = p .before .before .before .before .loop in
     let a = p .before .before .before .before .before .before .before .before .args in
     let s = at (a .servers .now) in
@@ -71,7 +74,7 @@ loop-again c =
     p .kept-step .ensures ∙ rw (p .before .before .server .ensures, p .before .kept .ensures, l .inv .1) (kept-back s m (min (a .n) most-requests) (l .i) (omega arith) (omega arith)) in (
       search needs,
       w,
-      rw (c .or-server .ensures, w, c .before .server2 .ensures, l .inv .2) (words-back s m (min (a .n) most-requests) places (l .i) (omega arith) (omega arith) (omega arith)),
+      rw (c .or-server .ensures, w, c .before .before .server2 .ensures, c .before .loaded .ensures, l .inv .2) (words-back s m (min (a .n) most-requests) places (l .i) (omega arith) (omega arith) (omega arith)),
     )
 
 returns : tie.Need-returns Inv-loop μ-loop
@@ -96,6 +99,7 @@ holders-spec =
     kept-requires
     kept-step-requires
     server-requires-2
+    loaded-requires
     or-server-requires
     mul-words
     array-write-words

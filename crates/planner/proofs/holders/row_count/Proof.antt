@@ -40,8 +40,8 @@ begun-requires c κs = search needs
 kept-requires : tie.Need-kept-requires Inv-loop μ-loop
 kept-requires c κs = search needs
 
-sent-requires : tie.Need-sent-requires Inv-loop μ-loop
-sent-requires c κs = search needs
+brought-requires : tie.Need-brought-requires Inv-loop μ-loop
+brought-requires c κs = search needs
 
 add-rows : tie.Need-add-rows Inv-loop μ-loop
 add-rows c = search needs
@@ -61,7 +61,7 @@ loop-again c =
     let m = marking (a .letters .now) in
     let b : p .begun .result ≡ begun (a .words .now) (suc (l .k)) =
     p .begun .ensures .0 ∙ rw (p .before .before .word .ensures, p .before .word2 .ensures, add-one (l .k)) in
-    let s : c .sent .result ≡ sent-at m (suc (l .k)) = c .sent .ensures .0 ∙ rw (c .before .kept .ensures) in
+    let s : c .brought .result ≡ sent-at m (suc (l .k)) = c .brought .ensures .0 ∙ rw (c .before .kept .ensures) in
     (search needs, search needs, search needs, omega arith, rw (add-one (l .k)) (omega (arith, row-count-more (a .words .now) m (l .k))))
 
 returns : tie.Need-returns Inv-loop μ-loop
@@ -83,7 +83,7 @@ row-count-spec =
     word-requires-2
     begun-requires
     kept-requires
-    sent-requires
+    brought-requires
     add-rows
     add-rows-2
     loop-less

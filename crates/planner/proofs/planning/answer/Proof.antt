@@ -79,7 +79,16 @@ slice-aggregate-put-all : tie.Need-slice-aggregate-put-all
 slice-aggregate-put-all c = search needs
 
 put-all-requires : tie.Need-put-all-requires
-put-all-requires c κs = search needs
+put-all-requires c κs =
+    let k = c .before .before .before .before in
+    let p = k .before .before .before .before in
+    let w = p .before .before .before .before .before in
+    let s = w .before .before .before .before .before .before .before .before .before .before in
+    let a = s .args in
+    w .before .before .row-count .ensures
+    ∙ rw (w .before .before .before .before .holders .ensures)
+    (filled-count (a .n) (a .count) (a .seconds .now) (a .servers .now) (a .letters .now) (s .pre)
+    ∙ ap length (sym (filled-rows (a .n) (a .count) (a .seconds .now) (a .servers .now) (a .letters .now) (s .pre))))
 
 clear32-requires : tie.Need-clear32-requires
 clear32-requires c κs = search needs

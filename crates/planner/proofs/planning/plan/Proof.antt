@@ -1,5 +1,6 @@
 -- `planner::planning::plan` meets its contract. Assumes nothing.
 use Rattle.prices.specs.FileLaws.{built-in-given, built-in-priced}
+use Rattle.prices.specs.Uploads.{if-given}
 use borrow.Author.Needs.{needs}
 use Rattle.planner.proofs.planning.plan.Statement.{statement}
 use Rattle.planner.proofs.planning.plan.Tie as tie
@@ -20,6 +21,7 @@ same-length-2 : tie.Need-same-length-2
 same-length-2 c = search needs
 
 returns : tie.Need-returns
+unfolding if-given
 returns c = rw (built-in-given _ (c .before .before .before .before .before .before .before .before .built-in .ensures)) (c .before .before .before .before .plan-by .ensures)
 
 pub plan-spec : {M : Type 1} → statement M

@@ -4,6 +4,7 @@ use Rattle.planner.specs.FillLaws.{filled-tabled}
 use Rattle.planner.specs.PlanRight.{spelt-front, lettered-front, cost-front, plan-marked, plan-answered}
 use native.Mathlib.Omega.{arith}
 use borrow.Author.Needs.{needs}
+use Rattle.planner.specs.Fees.{rated}
 use Rattle.planner.proofs.planning.plan_of.Statement.{statement}
 use Rattle.planner.proofs.planning.plan_of.Tie as tie
 
@@ -36,7 +37,7 @@ write-marks-requires c κs =
     let few = s .pre .0 .fits .requests-most in (
       s .pre .0,
       (
-        filled-tabled (a .summary .prices) (asks (a .seconds .now) (a .servers .now)) (a .summary .requests) _ _ _ _ (f .fill .ensures .0) (f .fill .ensures .1),
+        filled-tabled (rated (a .summary .fees)) (asks (a .seconds .now) (a .servers .now)) (a .summary .requests) _ _ _ _ (f .fill .ensures .0) (f .fill .ensures .1),
         search needs,
       ),
     )
@@ -60,9 +61,9 @@ answer-requires c κs =
     let s = f .before .before .before .before .before in
     let a = s .args in
     let few = s .pre .0 .fits .requests-most in
-    plan-marked (a .summary .prices) (a .summary .requests) (a .summary .«server_count») (a .seconds .now) (a .servers .now) _ few (s .pre .1 .0) (s .pre .1 .1)
-    (lettered-front (a .summary .prices) (asks (a .seconds .now) (a .servers .now)) (a .summary .requests) _ _ (w .write-marks .ensures))
-    (spelt-front (a .summary .prices) (asks (a .seconds .now) (a .servers .now)) (a .summary .requests) _ _ (w .write-marks .ensures))
+    plan-marked (rated (a .summary .fees)) (a .summary .requests) (a .summary .«server_count») (a .seconds .now) (a .servers .now) _ few (s .pre .1 .0) (s .pre .1 .1)
+    (lettered-front (rated (a .summary .fees)) (asks (a .seconds .now) (a .servers .now)) (a .summary .requests) _ _ (w .write-marks .ensures))
+    (spelt-front (rated (a .summary .fees)) (asks (a .seconds .now) (a .servers .now)) (a .summary .requests) _ _ (w .write-marks .ensures))
 
 same-length : tie.Need-same-length
 same-length c = search needs
@@ -77,7 +78,7 @@ returns c =
     let s = f .before .before .before .before .before in
     let a = s .args in
     let few = s .pre .0 .fits .requests-most in
-    let p = a .summary .prices in
+    let p = rated (a .summary .fees) in
     let q = asks (a .seconds .now) (a .servers .now) in
     let n = a .summary .requests in
     plan-answered p n (a .summary .«server_count») (a .seconds .now) (a .servers .now) _ few (s .pre .1 .0) (s .pre .1 .1)

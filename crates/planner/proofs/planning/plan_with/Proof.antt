@@ -1,5 +1,6 @@
 -- `planner::planning::plan_with` meets its contract. Assumes nothing.
 use Rattle.prices.specs.FileLaws.{judged-priced}
+use Rattle.prices.specs.Uploads.{if-given}
 use borrow.Author.Needs.{needs}
 use Rattle.planner.proofs.planning.plan_with.Statement.{statement}
 use Rattle.planner.proofs.planning.plan_with.Tie as tie
@@ -17,6 +18,7 @@ same-length-2 : tie.Need-same-length-2
 same-length-2 c = search needs
 
 returns : tie.Need-returns
+unfolding if-given
 returns c = rw (← c .before .before .before .before .before .before .before .file-fault .ensures) (c .before .before .before .before .plan-by .ensures)
 
 pub plan-with-spec : {M : Type 1} → statement M

@@ -1,5 +1,6 @@
 -- `planner::rows::put_transfer` meets its contract: no row, or the transfer's. Assumes nothing.
 use borrow.Author.Needs.{needs}
+use borrow.Author.Tests.{not-true, not-false}
 use mathlib.Core.Path.{_≡_, sym, ap₂, _∙_}
 use Prim.Native.Nat.{ℕ, suc}
 use native.Mathlib.Numerals.{add-one}
@@ -15,8 +16,8 @@ use Rattle.planner.specs.RowSteps.{transfer-none, transfer-one}
 use Rattle.planner.proofs.rows.put_transfer.Statement.{statement}
 use Rattle.planner.proofs.rows.put_transfer.Tie as tie
 
-kept-requires : tie.Need-kept-requires
-kept-requires c κs = search needs
+sent-requires : tie.Need-sent-requires
+sent-requires c κs = search needs
 
 returns : tie.Need-returns
 returns c =
@@ -24,7 +25,7 @@ returns c =
     let q = asks (a .times .now) (a .servers .now) in
     let m = marking (a .letters .now) in
     let h = put-empty (a .at) (new-transfer q m (word-source q (a .words .now)) (a .k)) (a .out .now)
-    (transfer-none q m (word-source q (a .words .now)) (a .k) (sym (c .before .kept .ensures) ∙ c .if1 .taken)) in
+    (transfer-none q m (word-source q (a .words .now)) (a .k) (sym (c .before .sent .ensures) ∙ not-true _ (c .if1 .taken))) in
     (h .0, search needs, h .1)
 
 add-i : tie.Need-add-i
@@ -69,7 +70,7 @@ returns-2 c =
     ∙ ap₂ (λ (w t : ℕ). nearest 64 (has w) t) (p .before .before .before .before .word .ensures) (target .ensures)
     ∙ rw (add-one (a .k)) in
     let h = put-single (a .at) (new-transfer q m from (a .k)) (move (transfer (from (suc (a .k))) (q .server (suc (a .k))) (q .time (suc (a .k))))) (a .out .now) (p .put-row .last .0)
-    (transfer-one q m from (a .k) (sym (b .before .kept .ensures) ∙ b .if1 .left))
+    (transfer-one q m from (a .k) (sym (b .before .sent .ensures) ∙ not-false _ (b .if1 .left)))
     (p .put-row .ensures ∙ rw (near, p .before .before .u32-from-u16 .ensures .0, target .ensures, p .before .second .ensures, add-one (a .k))) in
     (h .0, search needs, h .1)
 
@@ -77,7 +78,7 @@ pub put-transfer-spec : {M : Type 1} → statement M
 put-transfer-spec =
     tie.close
     (tie.spec
-    kept-requires
+    sent-requires
     returns
     add-i
     server-requires

@@ -59,7 +59,8 @@ returns c =
     let l = c .before .loop in
     let a = c .before .before .before .before .before .before .before .args in
     let e : l .k ≡ a .n = omega arith in
-    rw e at (l .inv .3 .1)
+    let h = rw e at (l .inv .3) in
+    (h .0, omega (arith, l .inv .1), h .1)
 
 pub put-transfers-spec : {M : Type 1} → statement M
 put-transfers-spec =

@@ -8,6 +8,7 @@ use lib.ListN.{set}
 use Rattle.planner.specs.Asked.{asks}
 use Rattle.planner.specs.Fits.{best-small}
 use Rattle.planner.specs.TermLaws.{terms-small, cost-terms}
+use Rattle.planner.specs.Fees.{rated}
 use Rattle.planner.proofs.table.extend.Statement.{statement}
 use Rattle.planner.proofs.table.extend.Tie as tie
 
@@ -22,41 +23,22 @@ next-keep-requires c κs =
     let s = c .before .before .before .before .before .before in
     (s .pre .0, (s .pre .1 .0, (s .pre .1 .1 .0, (c .before .before .terms-at .ensures, search needs, search needs))))
 
-u64-from-u32-requires : tie.Need-u64-from-u32-requires
-u64-from-u32-requires c κs = search needs
+mul-next-least : tie.Need-mul-next-least
+mul-next-least c = search needs
 
-add-sent : tie.Need-add-sent
-add-sent c =
-    let s = c .before .before .before .before .before .before .before .before .before in
-    let a = s .args in
-    let few = s .pre .0 .fits .requests-most in
-    omega (
-      arith,
-      terms-small (a .prices) (asks (a .seconds .now) (a .servers .now)) (a .i) (omega arith) _ (c .before .before .before .before .before .terms-at .ensures) (s .pre .0 .fits),
-    )
+slice-read-next-least : tie.Need-slice-read-next-least
+slice-read-next-least c = search needs
 
-mul-sent : tie.Need-mul-sent
-mul-sent c = search needs
-
-slice-read-sent : tie.Need-slice-read-sent
-slice-read-sent c = search needs
-
-add-sent-2 : tie.Need-add-sent-2
-add-sent-2 c =
-    let s = c .before .before .before .before .before .before .before .before .before .before in
+next-least-requires : tie.Need-next-least-requires
+next-least-requires c κs =
+    let s = c .before .before .before .before .before .before .before .before in
     let a = s .args in
     let q = asks (a .seconds .now) (a .servers .now) in
-    let few = s .pre .0 .fits .requests-most in
-    rw (c .before .before .before .before .before .before .before .size-from-u16 .ensures .0)
-    (omega (
-      arith,
-      terms-small (a .prices) q (a .i) (omega arith) _ (c .before .before .before .before .before .before .terms-at .ensures) (s .pre .0 .fits),
-      s .pre .1 .1 .0 .costs (a .i) (omega arith),
-      best-small (a .prices) q (suc (a .i)) (s .pre .0 .fits) (a .i) (a .i) (omega arith) (omega arith),
-    ))
-
-cheaper-requires : tie.Need-cheaper-requires
-cheaper-requires c κs = search needs
+    let few = s .pre .0 .fits .requests-most in (
+      terms-small (rated (a .fees)) q (a .i) (omega arith) _ (c .before .before .before .before .terms-at .ensures) (s .pre .0 .fits) .1,
+      rw (c .before .before .before .before .before .size-from-u16 .ensures .0)
+          (omega (arith, s .pre .1 .1 .0 .costs (a .i) (omega arith), best-small (rated (a .fees)) q (suc (a .i)) (s .pre .0 .fits) (a .i) (a .i) (omega arith) (omega arith))),
+    )
 
 add-costs : tie.Need-add-costs
 add-costs c = search needs
@@ -66,7 +48,7 @@ mul-costs c = search needs
 
 slice-write-costs : tie.Need-slice-write-costs
 slice-write-costs c =
-    let room = c .before .before .before .before .before .before .before .before .before .before .before .pre .1 .1 .1 in
+    let room = c .before .before .before .before .before .before .before .before .before .pre .1 .1 .1 in
     search needs
 
 add-keeps : tie.Need-add-keeps
@@ -77,7 +59,7 @@ mul-keeps c = search needs
 
 slice-write-keeps : tie.Need-slice-write-keeps
 slice-write-keeps c =
-    let room = c .before .before .before .before .before .before .before .before .before .before .before .pre .1 .1 .1 in
+    let room = c .before .before .before .before .before .before .before .before .before .pre .1 .1 .1 in
     search needs
 
 same-length : tie.Need-same-length
@@ -88,14 +70,14 @@ same-length-2 c = search needs
 
 returns : tie.Need-returns
 returns c =
-    let s = c .before .before .before .before .before .before .before .before .before .before .before in
+    let s = c .before .before .before .before .before .before .before .before .before in
     let a = s .args in
     let q = asks (a .seconds .now) (a .servers .now) in
     let few = s .pre .0 .fits .requests-most in
-    let t = c .before .before .before .before .before .before .before in
-    let d = c .before .before .before .before .next-keep in (
-      rw (c .cheaper .ensures, t .before .size-from-u16 .ensures .0, c .before .before .before .u64-from-u32 .ensures .0, add-one (a .i), d .ensures, t .terms-at .ensures)
-          (ap (set (a .costs .now) (suc (a .i))) (sym (cost-terms (a .prices) q (a .i) _ _ (omega arith)))),
+    let t = c .before .before .before .before .before in
+    let d = c .before .before .next-keep in (
+      rw (c .next-least .ensures, t .before .size-from-u16 .ensures .0, add-one (a .i), d .ensures, t .terms-at .ensures)
+          (ap (set (a .costs .now) (suc (a .i))) (sym (cost-terms (rated (a .fees)) q (a .i) _ _ (omega arith)))),
       rw (t .before .size-from-u16 .ensures .0, add-one (a .i), d .ensures),
     )
 
@@ -106,12 +88,9 @@ extend-spec =
     size-from-u16-requires
     terms-at-requires
     next-keep-requires
-    u64-from-u32-requires
-    add-sent
-    mul-sent
-    slice-read-sent
-    add-sent-2
-    cheaper-requires
+    mul-next-least
+    slice-read-next-least
+    next-least-requires
     add-costs
     mul-costs
     slice-write-costs

@@ -11,19 +11,20 @@ use Rattle.planner.specs.FillLaws.{set-first, costs-front, keeps-front, 
 use Rattle.model.specs.TableLists.{lists}
 use Rattle.planner.specs.Asked.{asks}
 use Rattle.planner.specs.Fits.{ready-less}
+use Rattle.planner.specs.Fees.{rated}
 use Rattle.planner.proofs.table.fill.Statement.{statement}
 use Rattle.planner.proofs.table.fill.Tie as tie
 
 abbrev Inv-loop : tie.InvT-loop
-Inv-loop prices seconds servers previous n costs₀ keeps₀ owns i₀ costs keeps i =
+Inv-loop fees seconds servers previous n costs₀ keeps₀ owns i₀ costs keeps i =
     (i ≤ n)
     × (length costs ≡ length costs₀)
     × (length keeps ≡ length keeps₀)
-    × (costs ≡ costs-front prices (asks seconds servers) i costs₀)
-    × (keeps ≡ keeps-front prices (asks seconds servers) i keeps₀)
+    × (costs ≡ costs-front (rated fees) (asks seconds servers) i costs₀)
+    × (keeps ≡ keeps-front (rated fees) (asks seconds servers) i keeps₀)
 
 abbrev μ-loop : tie.MeasureT-loop
-μ-loop prices seconds servers previous n costs₀ keeps₀ owns i₀ costs keeps i = n - i
+μ-loop fees seconds servers previous n costs₀ keeps₀ owns i₀ costs keeps i = n - i
 
 slice-write-costs : tie.Need-slice-write-costs Inv-loop μ-loop
 slice-write-costs c = search needs
@@ -46,11 +47,11 @@ returns c =
     let q = asks (a .seconds .now) (a .servers .now) in
     let e : 0 ≡ a .n = sym (c .if1 .taken) in (
       set-first (a .costs .now) 0 (search needs)
-          ∙ ap (λ (k : ℕ). costs-front (a .prices) q k (set (a .costs .now) 0 0)) e
-          ∙ ap (λ (x : List ℕ). lists (a .prices) q (a .n) .costs ++ x) (drop-set-lt (suc (a .n)) (a .costs .now) 0 0 (omega arith)),
+          ∙ ap (λ (k : ℕ). costs-front (rated (a .fees)) q k (set (a .costs .now) 0 0)) e
+          ∙ ap (λ (x : List ℕ). lists (rated (a .fees)) q (a .n) .costs ++ x) (drop-set-lt (suc (a .n)) (a .costs .now) 0 0 (omega arith)),
       set-first (a .keeps .now) 0 (search needs)
-          ∙ ap (λ (k : ℕ). keeps-front (a .prices) q k (set (a .keeps .now) 0 0)) e
-          ∙ ap (λ (x : List ℕ). lists (a .prices) q (a .n) .keeps ++ x) (drop-set-lt (suc (a .n)) (a .keeps .now) 0 0 (omega arith)),
+          ∙ ap (λ (k : ℕ). keeps-front (rated (a .fees)) q k (set (a .keeps .now) 0 0)) e
+          ∙ ap (λ (x : List ℕ). lists (rated (a .fees)) q (a .n) .keeps ++ x) (drop-set-lt (suc (a .n)) (a .keeps .now) 0 0 (omega arith)),
     )
 
 slice-aggregate-own-costs : tie.Need-slice-aggregate-own-costs Inv-loop μ-loop
@@ -74,11 +75,11 @@ extend-requires c κs =
     let l = c .before .before .before .before .loop in
     let long = length-set (a .costs .now) 0 0 in
     let long₂ = length-set (a .keeps .now) 0 0 in (
-      ready-less (a .prices) (a .seconds .now) (a .servers .now) (a .previous .now) (a .n) (suc (l .i)) (search needs) (s .pre .0),
+      ready-less (rated (a .fees)) (a .seconds .now) (a .servers .now) (a .previous .now) (a .n) (suc (l .i)) (search needs) (s .pre .0),
       (
         λ k h. c .before .before .before .before .before .before .own-costs .ensures k (omega (arith, l .inv .0)),
         (
-          filled-tabled (a .prices) (asks (a .seconds .now) (a .servers .now)) (l .i) _ _ (l .costs) (l .keeps) (l .inv .3) (l .inv .4),
+          filled-tabled (rated (a .fees)) (asks (a .seconds .now) (a .servers .now)) (l .i) _ _ (l .costs) (l .keeps) (l .inv .3) (l .inv .4),
           (omega (arith, l .inv), omega (arith, l .inv)),
         ),
       ),
@@ -105,11 +106,11 @@ loop-again c =
       ap length (x .ensures .0) ∙ length-set (l .costs) _ _ ∙ l .inv .1,
       ap length (x .ensures .1) ∙ length-set (l .keeps) _ _ ∙ l .inv .2,
       x .ensures .0
-          ∙ costs-more (a .prices) q (l .i) o o₂ (l .costs) (l .keeps) (l .inv .3) (l .inv .4) (omega arith)
-          ∙ ap (λ (k : ℕ). costs-front (a .prices) q k o) (sym (add-one (l .i))),
+          ∙ costs-more (rated (a .fees)) q (l .i) o o₂ (l .costs) (l .keeps) (l .inv .3) (l .inv .4) (omega arith)
+          ∙ ap (λ (k : ℕ). costs-front (rated (a .fees)) q k o) (sym (add-one (l .i))),
       x .ensures .1
-          ∙ keeps-more (a .prices) q (l .i) o o₂ (l .costs) (l .keeps) (l .inv .3) (l .inv .4) (omega arith)
-          ∙ ap (λ (k : ℕ). keeps-front (a .prices) q k o₂) (sym (add-one (l .i))),
+          ∙ keeps-more (rated (a .fees)) q (l .i) o o₂ (l .costs) (l .keeps) (l .inv .3) (l .inv .4) (omega arith)
+          ∙ ap (λ (k : ℕ). keeps-front (rated (a .fees)) q k o₂) (sym (add-one (l .i))),
     )
 
 same-length-3 : tie.Need-same-length-3 Inv-loop μ-loop
@@ -129,11 +130,11 @@ returns-2 c =
     let q = asks (a .seconds .now) (a .servers .now) in
     let e : l .i ≡ a .n = omega arith in (
       l .inv .3
-          ∙ ap (λ (k : ℕ). costs-front (a .prices) q k (set (a .costs .now) 0 0)) e
-          ∙ ap (λ (x : List ℕ). lists (a .prices) q (a .n) .costs ++ x) (drop-set-lt (suc (a .n)) (a .costs .now) 0 0 (omega arith)),
+          ∙ ap (λ (k : ℕ). costs-front (rated (a .fees)) q k (set (a .costs .now) 0 0)) e
+          ∙ ap (λ (x : List ℕ). lists (rated (a .fees)) q (a .n) .costs ++ x) (drop-set-lt (suc (a .n)) (a .costs .now) 0 0 (omega arith)),
       l .inv .4
-          ∙ ap (λ (k : ℕ). keeps-front (a .prices) q k (set (a .keeps .now) 0 0)) e
-          ∙ ap (λ (x : List ℕ). lists (a .prices) q (a .n) .keeps ++ x) (drop-set-lt (suc (a .n)) (a .keeps .now) 0 0 (omega arith)),
+          ∙ ap (λ (k : ℕ). keeps-front (rated (a .fees)) q k (set (a .keeps .now) 0 0)) e
+          ∙ ap (λ (x : List ℕ). lists (rated (a .fees)) q (a .n) .keeps ++ x) (drop-set-lt (suc (a .n)) (a .keeps .now) 0 0 (omega arith)),
     )
 
 pub fill-spec : {M : Type 1} → statement M

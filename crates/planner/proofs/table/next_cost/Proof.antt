@@ -5,15 +5,15 @@ use Rattle.planner.specs.Terms.{next-cost}
 use Rattle.planner.proofs.table.next_cost.Statement.{statement}
 use Rattle.planner.proofs.table.next_cost.Tie as tie
 
-u64-from-u32-requires : tie.Need-u64-from-u32-requires
-u64-from-u32-requires c κs = search needs
+first-requires : tie.Need-first-requires
+first-requires c κs = search needs
 
 add-result : tie.Need-add-result
 add-result c = search needs
 
 returns : tie.Need-returns
 unfolding next-cost
-returns c = rw (eq-eqb _ _ (c .before .if1 .taken), c .u64-from-u32 .ensures .0)
+returns c = rw (eq-eqb _ _ (c .before .if1 .taken), c .first .ensures .0)
 
 add-least : tie.Need-add-least
 add-least c = search needs
@@ -26,5 +26,4 @@ unfolding next-cost
 returns-2 c = rw (ne-eqb _ _ (c .before .if1 .left)) (c .least .ensures)
 
 pub next-cost-spec : {M : Type 1} → statement M
-next-cost-spec =
-    tie.close (tie.spec u64-from-u32-requires add-result returns add-least least-requires returns-2)
+next-cost-spec = tie.close (tie.spec first-requires add-result returns add-least least-requires returns-2)

@@ -7,6 +7,7 @@ use Rattle.model.specs.TableLists.{at}
 use Rattle.planner.specs.Asked.{asks}
 use Rattle.planner.specs.Fits.{fits-less, ready-less, row-small}
 use Rattle.planner.specs.TermLaws.{keep-none, keep-some, from-below, terms-small}
+use Rattle.planner.specs.Fees.{rated}
 use Rattle.planner.proofs.table.next_keep.Statement.{statement}
 use Rattle.planner.proofs.table.next_keep.Tie as tie
 
@@ -15,20 +16,20 @@ returns c =
     let s = c .before .before .before .before in
     let a = s .args in
     let few = s .pre .0 .fits .requests-most in
-    sym (keep-none (a .prices) (asks (a .seconds .now) (a .servers .now)) (a .i) (omega arith) (a .a) (s .pre .1 .1 .1 .0) (at (a .costs .now)) (at (a .keeps .now)) (c .if1 .taken))
+    sym (keep-none (rated (a .fees)) (asks (a .seconds .now) (a .servers .now)) (a .i) (omega arith) (a .a) (s .pre .1 .1 .1 .0) (at (a .costs .now)) (at (a .keeps .now)) (c .if1 .taken))
 
 row-requires : tie.Need-row-requires
 row-requires c κs =
     let s = c .before .before .before .before in
     let a = s .args in
     let few = s .pre .0 .fits .requests-most in (
-      ready-less (a .prices) (a .seconds .now) (a .servers .now) (a .previous .now) (suc (a .i)) (a .i) (omega arith) (s .pre .0),
+      ready-less (rated (a .fees)) (a .seconds .now) (a .servers .now) (a .previous .now) (suc (a .i)) (a .i) (omega arith) (s .pre .0),
       (
         s .pre .1 .0,
         (
           s .pre .1 .1 .0,
           (
-            from-below (a .prices) (asks (a .seconds .now) (a .servers .now)) (a .i) (omega arith) (a .a) (s .pre .1 .1 .1 .0) (c .if1 .left),
+            from-below (rated (a .fees)) (asks (a .seconds .now) (a .servers .now)) (a .i) (omega arith) (a .a) (s .pre .1 .1 .1 .0) (c .if1 .left),
             search needs,
             search needs,
           ),
@@ -46,8 +47,8 @@ add-result c =
     omega (
       arith,
       c .before .row .ensures,
-      terms-small (a .prices) q (a .i) (omega arith) (a .a) (s .pre .1 .1 .1 .0) (s .pre .0 .fits),
-      row-small (a .prices) q (a .i) (fits-less (a .prices) q (suc (a .i)) (s .pre .0 .fits) (a .i) (omega arith)) (at (a .costs .now)) (at (a .keeps .now)) (a .a .from) (a .i) (s .pre .1 .1 .0) (from-below (a .prices) q (a .i) (omega arith) (a .a) (s .pre .1 .1 .1 .0) left) (omega arith),
+      terms-small (rated (a .fees)) q (a .i) (omega arith) (a .a) (s .pre .1 .1 .1 .0) (s .pre .0 .fits),
+      row-small (rated (a .fees)) q (a .i) (fits-less (rated (a .fees)) q (suc (a .i)) (s .pre .0 .fits) (a .i) (omega arith)) (at (a .costs .now)) (at (a .keeps .now)) (a .a .from) (a .i) (s .pre .1 .1 .0) (from-below (rated (a .fees)) q (a .i) (omega arith) (a .a) (s .pre .1 .1 .1 .0) left) (omega arith),
     )
 
 returns-2 : tie.Need-returns-2
@@ -56,7 +57,7 @@ returns-2 c =
     let a = s .args in
     let few = s .pre .0 .fits .requests-most in
     rw (c .before .row .ensures)
-    (sym (keep-some (a .prices) (asks (a .seconds .now) (a .servers .now)) (a .i) (omega arith) (a .a) (s .pre .1 .1 .1 .0) (at (a .costs .now)) (at (a .keeps .now)) (c .before .before .if1 .left)))
+    (sym (keep-some (rated (a .fees)) (asks (a .seconds .now) (a .servers .now)) (a .i) (omega arith) (a .a) (s .pre .1 .1 .1 .0) (at (a .costs .now)) (at (a .keeps .now)) (c .before .before .if1 .left)))
 
 pub next-keep-spec : {M : Type 1} → statement M
 next-keep-spec = tie.close (tie.spec returns row-requires add-result returns-2)

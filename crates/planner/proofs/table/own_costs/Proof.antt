@@ -8,14 +8,15 @@ use lib.ListN.{length, length-set}
 use Rattle.planner.specs.Asked.{asks}
 use Rattle.planner.specs.Fits.{Owned, ready-less}
 use Rattle.planner.specs.StepLaws.{owned-more}
+use Rattle.planner.specs.Fees.{rated}
 use Rattle.planner.proofs.table.own_costs.Statement.{statement}
 use Rattle.planner.proofs.table.own_costs.Tie as tie
 
 abbrev Inv-loop : tie.InvT-loop
-Inv-loop prices seconds servers previous n owns₀ i₀ owns i = (i ≤ n) × (length owns ≡ length owns₀) × Owned prices (asks seconds servers) i owns
+Inv-loop fees seconds servers previous n owns₀ i₀ owns i = (i ≤ n) × (length owns ≡ length owns₀) × Owned (rated fees) (asks seconds servers) i owns
 
 abbrev μ-loop : tie.MeasureT-loop
-μ-loop prices seconds servers previous n owns₀ i₀ owns i = n - i
+μ-loop fees seconds servers previous n owns₀ i₀ owns i = n - i
 
 loop-holds : tie.Need-loop-holds Inv-loop μ-loop
 loop-holds c = (search needs, refl, λ k h. absurd (omega arith))
@@ -27,7 +28,7 @@ own-cost-requires : tie.Need-own-cost-requires Inv-loop μ-loop
 own-cost-requires c κs =
     let s = c .before .before .before .before in
     let a = s .args in
-    ready-less (a .prices) (a .seconds .now) (a .servers .now) (a .previous .now) (a .n) (suc (c .before .before .loop .i)) (search needs) (s .pre .0)
+    ready-less (rated (a .fees)) (a .seconds .now) (a .servers .now) (a .previous .now) (a .n) (suc (c .before .before .loop .i)) (search needs) (s .pre .0)
 
 add-owns : tie.Need-add-owns Inv-loop μ-loop
 add-owns c = search needs
@@ -52,7 +53,7 @@ loop-again c =
       search needs,
       length-set (l .owns) _ _ ∙ l .inv .1,
       rw (c .before .size-from-u16 .ensures .0, add-one (l .i))
-          (owned-more (a .prices) (asks (a .seconds .now) (a .servers .now)) (l .i) (l .owns) _ (l .inv .2) (omega (arith, l .inv .1, s .pre .1)) (c .own-cost .ensures)),
+          (owned-more (rated (a .fees)) (asks (a .seconds .now) (a .servers .now)) (l .i) (l .owns) _ (l .inv .2) (omega (arith, l .inv .1, s .pre .1)) (c .own-cost .ensures)),
     )
 
 same-length : tie.Need-same-length Inv-loop μ-loop

@@ -6,16 +6,17 @@ use Prim.Native.Nat.{_-_, _≤_}
 use Rattle.model.specs.TableLists.{at}
 use Rattle.model.specs.TableRows.{row, row-start}
 use Rattle.planner.specs.Asked.{asks}
+use Rattle.planner.specs.Fees.{rated}
 use Rattle.planner.specs.Fits.{row-small}
 use Rattle.planner.specs.StepLaws.{owned-small, row-more}
 use Rattle.planner.proofs.table.row.Statement.{statement}
 use Rattle.planner.proofs.table.row.Tie as tie
 
 abbrev Inv-loop : tie.InvT-loop
-Inv-loop prices seconds servers previous owns costs keeps c i end k₀ v₀ k v = (c ≤ k) × (k ≤ i) × (v ≡ row prices (asks seconds servers) (at costs) (at keeps) c k)
+Inv-loop fees seconds servers previous owns costs keeps c i end k₀ v₀ k v = (c ≤ k) × (k ≤ i) × (v ≡ row (rated fees) (asks seconds servers) (at costs) (at keeps) c k)
 
 abbrev μ-loop : tie.MeasureT-loop
-μ-loop prices seconds servers previous owns costs keeps c i end k₀ v₀ k v = end - k
+μ-loop fees seconds servers previous owns costs keeps c i end k₀ v₀ k v = end - k
 
 size-from-u16-requires : tie.Need-size-from-u16-requires Inv-loop μ-loop
 size-from-u16-requires c κs = search needs
@@ -35,7 +36,7 @@ loop-holds c =
     let e = c .before .size-from-u162 .ensures .0 in (
       omega (arith, e),
       omega (arith, e),
-      rw e (sym (row-start (a .prices) (asks (a .seconds .now) (a .servers .now)) (at (a .costs .now)) (at (a .keeps .now)) (a .c))),
+      rw e (sym (row-start (rated (a .fees)) (asks (a .seconds .now) (a .servers .now)) (at (a .costs .now)) (at (a .keeps .now)) (a .c))),
     )
 
 add-k : tie.Need-add-k Inv-loop μ-loop
@@ -65,9 +66,9 @@ next-cost-requires c κs =
     let a = s .args in
     let l = c .before .before .before .before .loop in
     let e = c .before .before .before .before .before .before .before .size-from-u16 .ensures .0 in (
-      owned-small (a .prices) (a .seconds .now) (a .servers .now) (a .previous .now) (a .owns .now) (a .i) (s .pre .0) (s .pre .1 .0) (l .k) (omega arith),
+      owned-small (rated (a .fees)) (a .seconds .now) (a .servers .now) (a .previous .now) (a .owns .now) (a .i) (s .pre .0) (s .pre .1 .0) (l .k) (omega arith),
       rw (l .inv .2)
-          (row-small (a .prices) (asks (a .seconds .now) (a .servers .now)) (a .i) (s .pre .0 .fits) (at (a .costs .now)) (at (a .keeps .now)) (a .c) (l .k) (s .pre .1 .1 .0) (l .inv .0) (l .inv .1)),
+          (row-small (rated (a .fees)) (asks (a .seconds .now) (a .servers .now)) (a .i) (s .pre .0 .fits) (at (a .costs .now)) (at (a .keeps .now)) (a .c) (l .k) (s .pre .1 .1 .0) (l .inv .0) (l .inv .1)),
     )
 
 loop-less : tie.Need-loop-less Inv-loop μ-loop
@@ -82,7 +83,7 @@ loop-again c =
       omega (arith, l .inv .0),
       omega arith,
       c .next-cost .ensures
-          ∙ row-more (a .prices) (a .seconds .now) (a .servers .now) (a .previous .now) (a .owns .now) (a .i) (s .pre .0) (s .pre .1 .0) (a .costs .now) (a .keeps .now) (s .pre .1 .1 .0) (a .c) (l .k) (l .v) (l .inv .0) (omega arith) (l .inv .2),
+          ∙ row-more (rated (a .fees)) (a .seconds .now) (a .servers .now) (a .previous .now) (a .owns .now) (a .i) (s .pre .0) (s .pre .1 .0) (a .costs .now) (a .keeps .now) (s .pre .1 .1 .0) (a .c) (l .k) (l .v) (l .inv .0) (omega arith) (l .inv .2),
     )
 
 returns : tie.Need-returns Inv-loop μ-loop

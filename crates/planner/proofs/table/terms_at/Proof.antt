@@ -3,6 +3,7 @@ use borrow.Author.Needs.{needs}
 use native.Mathlib.Omega.{arith}
 use mathlib.Core.Path.{_∙_}
 use Rattle.planner.specs.ReadyLaws.{second-before, link-below, link-second, read-alone, read-after}
+use Rattle.planner.specs.Fees.{rated}
 use Rattle.planner.proofs.table.terms_at.Statement.{statement}
 use Rattle.planner.proofs.table.terms_at.Tie as tie
 
@@ -52,13 +53,16 @@ held-requires : tie.Need-held-requires
 held-requires c κs =
     let p = c .before .before .before .before .before in
     let a = p .before .args in
-    second-before (a .prices) (a .seconds .now) (a .servers .now) (a .previous .now) (a .i) _ (p .size-from-u16 .ensures .0) (p .before .pre)
+    second-before (rated (a .fees)) (a .seconds .now) (a .servers .now) (a .previous .now) (a .i) _ (p .size-from-u16 .ensures .0) (p .before .pre)
+
+may-leave-requires : tie.Need-may-leave-requires
+may-leave-requires c κs = search needs
 
 returns : tie.Need-returns
 returns c =
-    let p = c .before .before .before .before .before .before .before in
+    let p = c .before .before .before .before .before .before .before .before in
     let a = p .before .args in
-    read-alone (a .prices) (a .seconds .now) (a .servers .now) (a .previous .now) (a .i) _ (p .size-from-u16 .ensures .0) (p .before .pre) _ (c .if1 .taken) (c .before .held .ensures)
+    read-alone (rated (a .fees)) (a .seconds .now) (a .servers .now) (a .previous .now) (a .i) _ (p .size-from-u16 .ensures .0) (p .before .pre) _ _ (c .if1 .taken) (c .before .may-leave .ensures) (c .before .before .held .ensures)
 
 size-from-u16-requires-2 : tie.Need-size-from-u16-requires-2
 size-from-u16-requires-2 c κs = search needs
@@ -68,28 +72,28 @@ mul-held-2 c = search needs
 
 element-copy-out-held-2 : tie.Need-element-copy-out-held-2
 element-copy-out-held-2 c =
-    let p = c .before .before .before .before .before .before .before .before in
+    let p = c .before .before .before .before .before .before .before .before .before in
     let a = p .before .args in
     omega (
       arith,
-      link-below (a .prices) (a .seconds .now) (a .servers .now) (a .previous .now) (a .i) _ (p .size-from-u16 .ensures .0) (p .before .pre) (c .before .if1 .left),
+      link-below (rated (a .fees)) (a .seconds .now) (a .servers .now) (a .previous .now) (a .i) _ (p .size-from-u16 .ensures .0) (p .before .pre) (c .before .if1 .left),
       c .size-from-u162 .ensures .0,
       p .before .pre .fits .requests-most,
     )
 
 held-requires-2 : tie.Need-held-requires-2
 held-requires-2 c κs =
-    let p = c .before .before .before .before .before .before .before .before .before in
+    let p = c .before .before .before .before .before .before .before .before .before .before in
     let a = p .before .args in
     rw (c .before .size-from-u162 .ensures .0)
-    (link-second (a .prices) (a .seconds .now) (a .servers .now) (a .previous .now) (a .i) _ (p .size-from-u16 .ensures .0) (p .before .pre) (c .before .before .if1 .left))
+    (link-second (rated (a .fees)) (a .seconds .now) (a .servers .now) (a .previous .now) (a .i) _ (p .size-from-u16 .ensures .0) (p .before .pre) (c .before .before .if1 .left))
 
 returns-2 : tie.Need-returns-2
 returns-2 c =
-    let p = c .before .before .before .before .before .before .before .before .before .before in
+    let p = c .before .before .before .before .before .before .before .before .before .before .before in
     let a = p .before .args in
-    read-after (a .prices) (a .seconds .now) (a .servers .now) (a .previous .now) (a .i) _ (p .size-from-u16 .ensures .0) (p .before .pre) _ _ (c .before .before .before .if1 .left)
-    (c .held2 .ensures ∙ rw (c .before .before .size-from-u162 .ensures .0)) (c .before .before .before .before .held .ensures)
+    read-after (rated (a .fees)) (a .seconds .now) (a .servers .now) (a .previous .now) (a .i) _ (p .size-from-u16 .ensures .0) (p .before .pre) _ _ _ (c .before .before .before .if1 .left) (c .before .before .before .before .may-leave .ensures)
+    (c .held2 .ensures ∙ rw (c .before .before .size-from-u162 .ensures .0)) (c .before .before .before .before .before .held .ensures)
 
 pub terms-at-spec : {M : Type 1} → statement M
 terms-at-spec =
@@ -110,6 +114,7 @@ terms-at-spec =
     mul-held
     element-copy-out-held
     held-requires
+    may-leave-requires
     returns
     size-from-u16-requires-2
     mul-held-2

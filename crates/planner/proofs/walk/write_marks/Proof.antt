@@ -13,19 +13,20 @@ use Rattle.planner.specs.Fits.{ready-less}
 use Rattle.planner.specs.Walked.{Keeps, turned, walked}
 use Rattle.planner.specs.TurnLaws.{turned-right}
 use Rattle.planner.specs.WalkLaws.{walked-step, walked-all}
+use Rattle.planner.specs.Fees.{rated}
 use Rattle.planner.proofs.walk.write_marks.Statement.{statement}
 use Rattle.planner.proofs.walk.write_marks.Tie as tie
 
 abbrev Inv-loop : tie.InvT-loop
-Inv-loop prices seconds servers previous costs keeps n letters₀ end c₀ v₀ i₀ letters c v i =
+Inv-loop fees seconds servers previous costs keeps n letters₀ end c₀ v₀ i₀ letters c v i =
     (i ≤ n)
     × (length letters ≡ length letters₀)
-    × (v ≡ best prices (asks seconds servers) i c)
-    × (walked prices (asks seconds servers) (at keeps) i c v ++ drop i letters
-    ≡ walked prices (asks seconds servers) (at keeps) n n (at costs n) ++ drop n letters₀)
+    × (v ≡ best (rated fees) (asks seconds servers) i c)
+    × (walked (rated fees) (asks seconds servers) (at keeps) i c v ++ drop i letters
+    ≡ walked (rated fees) (asks seconds servers) (at keeps) n n (at costs n) ++ drop n letters₀)
 
 abbrev μ-loop : tie.MeasureT-loop
-μ-loop prices seconds servers previous costs keeps n letters₀ end c₀ v₀ i₀ letters c v i = i
+μ-loop fees seconds servers previous costs keeps n letters₀ end c₀ v₀ i₀ letters c v i = i
 
 size-from-u16-requires : tie.Need-size-from-u16-requires Inv-loop μ-loop
 size-from-u16-requires c κs = search needs
@@ -65,9 +66,9 @@ step-back-requires c κs =
     let l = c .before .before .before .loop in
     let q = asks (a .seconds .now) (a .servers .now) in
     let e : suc (l .i - 1) ≡ l .i = omega arith in (
-      ready-less (a .prices) (a .seconds .now) (a .servers .now) (a .previous .now) (a .n) (suc (l .i - 1)) (omega arith) (s .pre .0),
+      ready-less (rated (a .fees)) (a .seconds .now) (a .servers .now) (a .previous .now) (a .n) (suc (l .i - 1)) (omega arith) (s .pre .0),
       (
-        l .inv .2 ∙ ap (λ (x : ℕ). best (a .prices) q x (l .c)) (sym e),
+        l .inv .2 ∙ ap (λ (x : ℕ). best (rated (a .fees)) q x (l .c)) (sym e),
         rw (c .before .size-from-u162 .ensures .0, add-one (l .i - 1)) (λ j z. s .pre .1 .0 .keeps (l .i - 1) j (omega arith) z),
       ),
     )
@@ -87,15 +88,15 @@ loop-again c =
     let q = asks (a .seconds .now) (a .servers .now) in
     let k = c .before .before .size-from-u162 in
     let e : suc (l .i - 1) ≡ l .i = omega arith in
-    let t : c .step-back .result ≡ turned (a .prices) q (l .i - 1) (l .c) (at (a .keeps .now) (suc (l .i - 1))) (l .v) =
+    let t : c .step-back .result ≡ turned (rated (a .fees)) q (l .i - 1) (l .c) (at (a .keeps .now) (suc (l .i - 1))) (l .v) =
     c .step-back .ensures ∙ rw (k .ensures .0, add-one (l .i - 1)) in (
       omega arith,
       length-set (l .letters) _ _ ∙ l .inv .1,
       rw t
-          (turned-right (a .prices) q (l .i - 1) (l .c) (at (a .keeps .now) (suc (l .i - 1))) (l .v) (l .inv .2 ∙ ap (λ (x : ℕ). best (a .prices) q x (l .c)) (sym e))
+          (turned-right (rated (a .fees)) q (l .i - 1) (l .c) (at (a .keeps .now) (suc (l .i - 1))) (l .v) (l .inv .2 ∙ ap (λ (x : ℕ). best (rated (a .fees)) q x (l .c)) (sym e))
           (λ j z. s .pre .1 .0 .keeps (l .i - 1) j (omega arith) z)),
       rw (k .ensures .0)
-          (walked-step (a .prices) q (at (a .keeps .now)) (l .i - 1) (l .c) (l .v) (l .i) (l .letters) _ (c .step-back .result) e (omega (arith, l .inv)) t (l .inv .3)),
+          (walked-step (rated (a .fees)) q (at (a .keeps .now)) (l .i - 1) (l .c) (l .v) (l .i) (l .letters) _ (c .step-back .result) e (omega (arith, l .inv)) t (l .inv .3)),
     )
 
 same-length : tie.Need-same-length Inv-loop μ-loop
@@ -108,7 +109,7 @@ returns c =
     let l = c .before .loop in
     let q = asks (a .seconds .now) (a .servers .now) in
     let e : l .i ≡ 0 = omega arith in
-    walked-all (a .prices) q (at (a .costs .now)) (at (a .keeps .now)) (a .n) (l .c) (l .v) (l .letters) (a .letters .now) (s .pre .1 .0) (rw e at (l .inv .3))
+    walked-all (rated (a .fees)) q (at (a .costs .now)) (at (a .keeps .now)) (a .n) (l .c) (l .v) (l .letters) (a .letters .now) (s .pre .1 .0) (rw e at (l .inv .3))
 
 pub write-marks-spec : {M : Type 1} → statement M
 write-marks-spec =

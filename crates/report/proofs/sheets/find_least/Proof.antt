@@ -5,6 +5,7 @@ use Rattle.planner.specs.Answers.{least-verdict}
 use Rattle.base.specs.declared.Verdict.the-variants.{Passed}
 use Rattle.prices.specs.PriceLaws.{file-priced}
 use Rattle.prices.specs.Tariff.{price-file}
+use mathlib.Core.Option.{none}
 use mathlib.Core.Path.{_≡_}
 use lib.ListN.{length}
 use Rattle.report.proofs.sheets.find_least.Statement.{statement}
@@ -21,7 +22,7 @@ returns c =
     let s = c .before .before .before .before .before .before .before in
     let a = s .args in
     let t = price-file (a .prices .now) in
-    let v : least-verdict t (a .log .now) (length (a .costs .now)) ≡ Passed = rw (s .pre .1) (least-passes t (file-priced (a .prices .now)) (a .log .now) (s .pre .0)) in
+    let v : least-verdict t none (a .log .now) (length (a .costs .now)) ≡ Passed = rw (s .pre .1) (least-passes t (file-priced (a .prices .now)) (a .log .now) (s .pre .0)) in
     rw (← v) (c .before .before .least-with .ensures .1)
 
 pub find-least-spec : {M : Type 1} → statement M

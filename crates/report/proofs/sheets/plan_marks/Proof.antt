@@ -7,6 +7,7 @@ use Rattle.planner.specs.Answers.{plan-verdict, planned}
 use Rattle.base.specs.declared.Verdict.the-variants.{Passed}
 use Rattle.prices.specs.PriceLaws.{file-priced}
 use Rattle.prices.specs.Tariff.{price-file}
+use mathlib.Core.Option.{none}
 use mathlib.Core.Path.{_≡_, refl, _∙_}
 use lib.ListN.{length}
 use Rattle.report.proofs.sheets.plan_marks.Statement.{statement}
@@ -30,7 +31,7 @@ returns c =
     let s = c .before .before .before .before .before .before .before .before .before .before in
     let a = s .args in
     let t = price-file (a .prices .now) in
-    let v : plan-verdict t (a .log .now) (length (a .marks .now)) rows-room ≡ Passed = rw (s .pre .1) (plan-passes t (file-priced (a .prices .now)) (a .log .now) (s .pre .0)) in
+    let v : plan-verdict t none (a .log .now) (length (a .marks .now)) rows-room ≡ Passed = rw (s .pre .1) (plan-passes t (file-priced (a .prices .now)) (a .log .now) (s .pre .0)) in
     let p = c .before .before .before .before .plan-with .ensures in
     (c .row-count .ensures ∙ rw (p .0, v) refl, rw (← v) (p .1 .0))
 

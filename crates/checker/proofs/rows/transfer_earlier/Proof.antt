@@ -1,8 +1,8 @@
--- `checker::rows::earlier` meets its contract. Assumes nothing.
+-- `checker::rows::transfer_earlier` meets its contract. Assumes nothing.
 use borrow.Author.Tests.{lt-ltb, le-ltb, eq-eqb, ne-eqb}
 use Rattle.model.specs.RowForm.{earlier}
-use Rattle.checker.proofs.rows.earlier.Statement.{statement}
-use Rattle.checker.proofs.rows.earlier.Tie as tie
+use Rattle.checker.proofs.rows.transfer_earlier.Statement.{statement}
+use Rattle.checker.proofs.rows.transfer_earlier.Tie as tie
 
 returns : tie.Need-returns
 unfolding earlier
@@ -24,5 +24,5 @@ returns-5 : tie.Need-returns-5
 unfolding earlier
 returns-5 c = rw (le-ltb _ _ (c .before .before .before .before .before .before .before .before .before .before .before .if1 .left), eq-eqb _ _ (c .before .before .before .before .before .before .before .before .if2 .left), le-ltb _ _ (c .before .before .before .before .before .if3 .left), eq-eqb _ _ (c .before .before .if4 .left))
 
-pub earlier-spec : {M : Type 1} → statement M
-earlier-spec = tie.close (tie.spec returns returns-2 returns-3 returns-4 returns-5)
+pub transfer-earlier-spec : {M : Type 1} → statement M
+transfer-earlier-spec = tie.close (tie.spec returns returns-2 returns-3 returns-4 returns-5)

@@ -1,28 +1,28 @@
--- `checker::standing::sources` meets its contract. Assumes nothing.
+-- `checker::standing::servers` meets its contract. Assumes nothing.
 use borrow.Author.Needs.{needs}
 use mathlib.Core.Path.{_≡_, refl}
 use Prim.Native.Nat.{_-_, _≤_}
 use native.Mathlib.Nat.{sub-self}
 use native.Mathlib.Omega.{arith}
-use Rattle.checker.specs.Quick.{sources}
-use Rattle.checker.specs.QuickSteps.{source-more}
-use Rattle.checker.proofs.standing.sources.Statement.{statement}
-use Rattle.checker.proofs.standing.sources.Tie as tie
+use Rattle.checker.specs.Quick.{servers}
+use Rattle.checker.specs.QuickSteps.{server-more}
+use Rattle.checker.proofs.standing.servers.Statement.{statement}
+use Rattle.checker.proofs.standing.servers.Tie as tie
 
 abbrev Inv-loop : tie.InvT-loop
-Inv-loop ns from to w₀ i₀ w i = (from ≤ i) × (i - from ≤ to - from) × (w ≡ sources ns from (i - from))
+Inv-loop ns from to start w₀ i₀ w i = (from ≤ i) × (i - from ≤ to - from) × (w ≡ servers ns from start (i - from))
 
 abbrev μ-loop : tie.MeasureT-loop
-μ-loop ns from to w₀ i₀ w i = to - i
+μ-loop ns from to start w₀ i₀ w i = to - i
 
 loop-holds : tie.Need-loop-holds Inv-loop μ-loop
-unfolding sources
+unfolding servers
 loop-holds c =
     let a = c .before .args in
     rw (sub-self (a .from)) (search needs, search needs, refl)
 
-row-requires : tie.Need-row-requires Inv-loop μ-loop
-row-requires c κs = search needs
+whole-requires : tie.Need-whole-requires Inv-loop μ-loop
+whole-requires c κs = search needs
 
 join-requires : tie.Need-join-requires Inv-loop μ-loop
 join-requires c κs = search needs
@@ -39,7 +39,7 @@ loop-again c =
     let a = c .before .before .before .before .before .args in (
       search needs,
       search needs,
-      source-more (a .ns .now) (a .from) (l .i) (l .w) _ _ (l .inv .0) (l .inv .2) (c .before .row .ensures) (c .join .ensures),
+      server-more (a .ns .now) (a .from) (a .start) (l .i) (l .w) _ _ (l .inv .0) (l .inv .2) (c .before .whole .ensures) (c .join .ensures),
     )
 
 returns : tie.Need-returns Inv-loop μ-loop
@@ -49,14 +49,14 @@ returns c =
     let e : a .to - a .from ≡ l .i - a .from = omega arith in
     rw e (l .inv .2)
 
-pub sources-spec : {M : Type 1} → statement M
-sources-spec =
+pub servers-spec : {M : Type 1} → statement M
+servers-spec =
     tie.close
     (tie.spec
     Inv-loop
     μ-loop
     loop-holds
-    row-requires
+    whole-requires
     join-requires
     add-i
     loop-less

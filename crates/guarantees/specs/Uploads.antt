@@ -1,0 +1,162 @@
+-- Uploads from the ticket office (02's Req 11). What Optimality, Sources, CheckerAccepts, Calls and the planner's half of Demand3 say, they say for every
+-- upload price and for none. Here: with none all is as 01 has it; an upload price makes no plan dearer; and who is refused with 44.
+use mathlib.Core.Bool.{true, false}
+use mathlib.Core.List.{List, [], List·Memᴰ}
+use mathlib.Core.Logic.{_⊎_, inl, inr, _≢_}
+use mathlib.Core.Option.{none, some}
+use mathlib.Core.Path.{_≡_, refl, ap, _∙_}
+use native.Mathlib.Omega.{arith}
+use Prim.Native.Nat.{ℕ, _+_, _*_, _≤_, _<_}
+use lib.ListN.{getD}
+use Rattle.base.specs.declared.Verdict.{Verdict}
+use Rattle.base.specs.declared.Verdict.the-variants.{Passed, Refused}
+use Rattle.base.specs.Choice.{not-both, true-or-false}
+use Rattle.base.specs.Refusals.{refuse, first}
+use Rattle.base.specs.RefusalLaws.{first-failed}
+use Rattle.prices.specs.declared.Prices.{Prices}
+use Rattle.prices.specs.Prices.{price-outside}
+use Rattle.prices.specs.Tariff.{Tariff}
+use Rattle.prices.specs.Uploads.{upload-conditions, Taken}
+use Rattle.prices.specs.UploadLaws.{taken-iff}
+use Rattle.log.specs.Fields.{request-count, server-count}
+use Rattle.log.specs.Conditions.{Accepted}
+use Rattle.log.specs.Contents.{cut}
+use Rattle.log.specs.Cutting.{cut-count}
+use Rattle.model.specs.Rates.{rates, plain, some?, or-zero, offers}
+use Rattle.model.specs.Sums.{total}
+use Rattle.model.specs.Requests.{Requests, Rising, Within}
+use Rattle.model.specs.Schedule.{Row, hold, move, transfer, upload, Feasible, length-of, is-transfer, is-upload, cost-of}
+use Rattle.model.specs.CountLaws.{total-zero}
+use Rattle.model.specs.Marking.{Mark, K, S, U, legal, Valid, cost}
+use Rattle.model.specs.Plan.{plan, plan-cost, plan-rows, rank, Before}
+use Rattle.model.specs.PlanLaws.{plan-planned}
+use Rattle.model.specs.LogRequests.{requests-in, prices-in}
+use Rattle.model.specs.LogRequestLaws.{log-rising, log-within}
+use Rattle.checker.specs.Answers.{check-conditions, check-verdict-of}
+use Rattle.planner.specs.Answers.{plan-verdict, least-costs, least-verdict}
+use Rattle.report.specs.SheetLaws.{passed-after}
+use Rattle.guarantees.specs.Optimality.{optimal}
+use Rattle.guarantees.specs.Demand3.{planned-best}
+
+-- ---- without an upload price
+
+-- 01's schedules and plan, where no upload price is given
+pub record As-before (p : Prices) (q : Requests) (n : ℕ) : Type 0 where
+  -- no feasible schedule has an upload
+  pub no-upload : (rows : List Row) → Feasible (plain p) q n rows → (x τ : ℕ) → List·Memᴰ (move (upload x τ)) rows → ⊥
+  -- it costs the hold price × its seconds and the transfer price × its transfers
+  pub costs : (rows : List Row) → Feasible (plain p) q n rows → cost-of (plain p) rows ≡ p .hold * total length-of rows + p .transfer * total is-transfer rows
+  -- no legal mark is U
+  pub no-U : (m : ℕ → Mark) → Valid (plain p) q m n → (i : ℕ) → 1 ≤ i → i ≤ n → m i ≢ U
+  -- and at the latest request where another marking of the plan's cost differs from it, the plan has K
+  pub ties : (m : ℕ → Mark) → Valid (plain p) q m n → cost (plain p) q m n ≡ cost (plain p) q (plan (plain p) q n) n → (d : ℕ) → 1 ≤ d → d ≤ n
+      → plan (plain p) q n d ≢ m d → ((i : ℕ) → d < i → i ≤ n → plan (plain p) q n i ≡ m i) → plan (plain p) q n d ≡ K
+
+module _ (p : Prices) (q : Requests) (n : ℕ) where
+  -- uploads are not offered
+  not-offered : offers (plain p) ≡ false
+  unfolding rates some?
+  not-offered = refl
+
+  no-upload : (rows : List Row) → Feasible (plain p) q n rows → (x τ : ℕ) → List·Memᴰ (move (upload x τ)) rows → ⊥
+  no-upload rows F x τ m = not-both (F .offered x τ m) not-offered
+
+  none-paid : (rows : List Row) → Feasible (plain p) q n rows → total is-upload rows ≡ 0
+  unfolding is-upload
+  none-paid rows F = total-zero is-upload rows each
+    where
+      each : (r : Row) → List·Memᴰ r rows → is-upload r ≡ 0
+      each (hold x a b) m = refl
+      each (move (transfer y x τ)) m = refl
+      each (move (upload x τ)) m = absurd (no-upload rows F x τ m)
+
+  no-U : (m : ℕ → Mark) → Valid (plain p) q m n → (i : ℕ) → 1 ≤ i → i ≤ n → m i ≢ U
+  unfolding legal
+  no-U m v i a b e = not-both (rw e at (v i a b)) not-offered
+
+-- of two marks that are not U, a tie goes to the first only if it is K
+first-K : (a b : Mark) → rank a < rank b → a ≢ U → b ≢ U → a ≡ K
+unfolding rank
+first-K K b h x y = refl
+first-K S K h x y = absurd (omega arith)
+first-K S S h x y = absurd (omega arith)
+first-K S U h x y = absurd (y refl)
+first-K U b h x y = absurd (x refl)
+
+-- WITHOUT AN UPLOAD PRICE all is as before
+pub as-before : (p : Prices) (q : Requests) (n : ℕ) → As-before p q n
+unfolding cost-of rates or-zero Before
+as-before p q n =
+    let P = plan-planned (plain p) q n in
+    let m = plan (plain p) q n in
+    record {
+      no-upload = no-upload p q n;
+      costs = λ rows F. omega arith;
+      no-U = no-U p q n;
+      ties = λ m′ v e d a b x y. first-K (m d) (m′ d) (P .before m′ v e d a b x y) (no-U p q n m (P .lawful) d a b) (no-U p q n m′ v d a b);
+    }
+
+-- ---- with one
+
+-- AN UPLOAD PRICE MAKES NO PLAN DEARER
+pub no-dearer : (p : Prices) (y count : ℕ) (q : Requests) (n : ℕ) → Rising q n → Within count q n
+    → plan-cost (rates p (some y)) q n ≤ plan-cost (plain p) q n
+unfolding cost-of rates or-zero
+no-dearer p y count q n rising within =
+    let o = optimal (plain p) count q n rising within in
+    let rows = plan-rows (plain p) q count n in
+    omega (
+      arith,
+      o .costs,
+      ap (λ (x : ℕ). y * x) (none-paid p q n rows (o .feasible)),
+      optimal (rates p (some y)) count q n rising within .none-less rows (still (o .feasible)),
+    )
+  where
+    still : {rows : List Row} → Feasible (plain p) q n rows → Feasible (rates p (some y)) q n rows
+    still {rows} F =
+        record { begins = F .begins; leaves = F .leaves; serves = F .serves; offered = λ x τ m. absurd (no-upload p q n rows F x τ m) }
+
+-- so for every accepted log, after each of its requests
+pub least-no-dearer : (t : Tariff) (y : ℕ) → Taken (some y) → (log : List ℕ) (k : ℕ) → Accepted t log → k ≤ request-count log
+    → getD (least-costs t (some y) log) k 0 ≤ getD (least-costs t none log) k 0
+least-no-dearer t y taken log k a h =
+    let part = cut k log in
+    let with-uploads = planned-best t (some y) taken log k a h in
+    let without = planned-best t none tt log k a h in
+    omega (
+      arith,
+      with-uploads .least-is,
+      without .least-is,
+      no-dearer (prices-in t part) y (server-count part) (requests-in part) k
+          (rw (cut-count t log k a h) at (log-rising t part (without .accepted)))
+          (rw (cut-count t log k a h) at (log-within t part (without .accepted))),
+    )
+
+-- ---- 44
+
+-- the refusal of an upload price
+abbrev pub out-of-range : Verdict
+out-of-range = Refused (record { number = 44; place = 0 })
+
+-- each call that is given it, for a log that is accepted, whatever else it is given
+pub record Price-refused (t : Tariff) (y : ℕ) (log : List ℕ) : Type 0 where
+  pub plan : (marks rows : ℕ) → plan-verdict t (some y) log marks rows ≡ out-of-range
+  pub least : (costs : ℕ) → least-verdict t (some y) log costs ≡ out-of-range
+  pub check : (rows : List ℕ) → check-verdict-of t (some y) log rows ≡ out-of-range
+
+-- WHO IS REFUSED WITH 44: where the log is accepted, exactly those whose price is not from 1 to 1,000,000. A refused log is refused by its own conditions
+-- (Calls): they come before
+pub price-refused : (t : Tariff) (y : ℕ) (log : List ℕ) → Accepted t log → (Taken (some y) → ⊥) → Price-refused t y log
+unfolding plan-verdict least-verdict check-verdict-of check-conditions upload-conditions first
+price-refused t y log a out =
+    record {
+      plan = λ marks rows. passed-after t log _ a ∙ rw outside;
+      least = λ costs. passed-after t log _ a ∙ rw outside;
+      check = λ rows. passed-after t log _ a ∙ rw outside;
+    }
+  where
+    outside : price-outside y ≡ true
+    outside = elim (true-or-false (price-outside y)) [
+      | inl e ↦ e
+      | inr e ↦ absurd (out (taken-iff (some y) .0 (first-failed (refuse 44 0 (price-outside y)) [] e)))
+    ]
