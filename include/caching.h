@@ -17,7 +17,7 @@
  * - each pointer has as many elements behind it as the length after it says; with length 0 it may be null;
  * - an output that is lent overlaps nothing else that the call is given: where it does, a wrong answer can come back as accepted;
  * - `closed` is 0 or 1: any other byte is not a bool;
- * - the stack has room: caching_plan takes 101 KB of it, caching_least 50 KB, with a price file or without; any other call takes less than 3 KB
+ * - the stack has room: a plan takes 101 KB of it, least costs 50 KB, with a price file or an upload price or without; any other call takes less than 3 KB
  *   (measured on x86-64).
  *
  * A refused call gives the refusal's number and place, and values 0. What it was lent is left as it was; a read gives a header of zeros, a scan

@@ -99,7 +99,7 @@ pub fn random_table(random: &mut Random) -> Table {
     random_prices(random)
 }
 
-/// Whence an upload price, or none, for a log's prices.
+/// How an upload price, or none, is drawn for a log's prices.
 pub type Uploads = fn(&mut Random, Prices) -> Upload;
 
 pub fn no_upload(_: &mut Random, _: Prices) -> Upload {

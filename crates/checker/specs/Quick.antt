@@ -33,7 +33,7 @@ reaches ns τ x =
     let p = position ns (hold-key x τ) in
     both (not (eqb p 0)) (covers τ x (row-at ns (pred p)))
 
--- with the servers where the n rows from one on begin, leave or arrive by an upload
+-- with the servers where holds begin, transfers leave and uploads arrive, of the n rows from one on
 unfoldable pub servers : List ℕ → ℕ → ℕ → ℕ → ℕ
 servers ns from w zero = w
 servers ns from w (suc n) = join (servers ns from w n) (server-of (row-at ns (from + n)))

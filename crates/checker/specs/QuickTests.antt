@@ -47,7 +47,7 @@ last-passed : (v w : Verdict) → w ≡ Passed → otherwise v w ≡ v
 last-passed Passed w e = e
 last-passed (Refused r) w e = refl
 
--- of the rates 15 asks whether they offer uploads
+-- 15 asks of the rates only whether an upload price is given
 offers-same : (p : Rates) (kind last : ℕ) → kind-fits (offering (offers p)) kind last ≡ kind-fits p kind last
 unfolding kind-fits offering
 offers-same p kind last = rw (given-some (offers p) 0)

@@ -38,7 +38,7 @@ row-upload k a b c n m = rw (ne-eqb k 0 n, ne-eqb k 1 m)
 pub row-above : (k a b c : ℕ) → 1 < k → row-of k a b c ≡ move (upload a b)
 row-above k a b c l = row-upload k a b c (omega arith) (omega arith)
 
--- what holds of a row of each kind but one holds of a row that is not of that one; of each kind, of every row
+-- what holds of each kind holds of every row; of a row that is not of one kind, what holds of the other two
 pub not-hold : (P : Row → Type 0) (k a b c : ℕ) → k ≢ 0 → P (move (transfer a b c)) → P (move (upload a b)) → P (row-of k a b c)
 not-hold P k a b c n t u = go (same-or-not k 1)
   where

@@ -16,7 +16,7 @@ hold-key x τ = 4194304 * x + τ
 unfoldable pub second-key : ℕ → ℕ
 second-key τ = 268435456 + 4096 * τ
 
--- the place of an upload of second τ to server x, after all transfers of seconds below 2 ^ 22; made up as a transfer's, second by second where x < 64
+-- the place of an upload of second τ to server x, after all transfers of seconds below 2 ^ 22: formed like a transfer's place, it rises with the second where x < 64
 unfoldable pub upload-key : ℕ → ℕ → ℕ
 upload-key τ x = 34359738368 + 4097 * τ + 64 * x
 

@@ -149,7 +149,7 @@ fn check_by(
     Checked::Cost(cost(of_class(prices, at(log, 2)), given, upload, rows))
 }
 
-// The same by the built-in table, without uploads.
+// The same by the built-in table, with no upload price.
 pub fn check(log: &[u8], rows: &[u32]) -> Checked
     ensures { λ r. ⌜ r ≡ check-answer built-in none (now (log .entry)) (now (rows .entry)) ⌝ }
 {
@@ -164,7 +164,7 @@ pub fn check_with(prices: &[u8], log: &[u8], rows: &[u32]) -> Checked
     check_by(file_fault(prices), prices, false, 0, log, rows)
 }
 
-// By the built-in table, with uploads at a price.
+// The same by the built-in table, with an upload price.
 pub fn check_uploads(upload: u32, log: &[u8], rows: &[u32]) -> Checked
     ensures { λ r. ⌜ r ≡ check-answer built-in (some upload) (now (log .entry)) (now (rows .entry)) ⌝ }
 {

@@ -116,7 +116,7 @@ fn start(home: u32, t: u32) -> u64
     0
 }
 
-// The set with the servers where the rows from one on up to another begin, leave or arrive by an upload.
+// The set with the servers where holds begin, transfers leave and uploads arrive, of the rows from one on up to another.
 fn servers(ns: &[u32], from: usize, to: usize, start: u64) -> u64
     requires { ⌜ to ≤ row-count (now ns) ⌝ }
     ensures { λ r. ⌜ r ≡ servers (now (ns .entry)) from start (to - from) ⌝ }

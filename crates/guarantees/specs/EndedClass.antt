@@ -94,7 +94,7 @@ only-seven t (file bytes) class e = absurd (not-both e refl)
 
 -- what a log of class 7 keeps, and what is refused
 pub record Old-log (log : List ℕ) : Type 0 where
-  -- it is read, at its old prices, and planned best with each of its cuts, uploads or none
+  -- it is read, at its old prices, and planned best with each of its cuts, with an upload price or with none
   pub accepted : Accepted built-in log
   pub prices-are : prices-in built-in log ≡ priced 1 1000000
   pub planned : (u : Option ℕ) → Taken u → (k : ℕ) → k ≤ request-count log → Planned-best built-in u log k

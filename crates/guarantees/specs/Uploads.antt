@@ -1,15 +1,16 @@
 -- Uploads from the ticket office (02's Req 11). What Optimality, Sources, CheckerAccepts, Calls and the planner's half of Demand3 say, they say for every
--- upload price and for none. Here: with none all is as 01 has it; an upload price makes no plan dearer; and who is refused with 44.
+-- upload price and for none. Here: with none all is as 01 has it; which uploads a plan has; an upload price makes no plan dearer; and who is refused
+-- with 44.
 use mathlib.Core.Bool.{true, false}
 use mathlib.Core.List.{List, [], List·Memᴰ}
-use mathlib.Core.Logic.{_⊎_, inl, inr, _≢_}
+use mathlib.Core.Logic.{inl, inr, _≢_}
 use mathlib.Core.Option.{none, some}
 use mathlib.Core.Path.{_≡_, refl, ap, _∙_}
 use native.Mathlib.Omega.{arith}
 use Prim.Native.Nat.{ℕ, _+_, _*_, _≤_, _<_}
 use lib.ListN.{getD}
 use Rattle.base.specs.declared.Verdict.{Verdict}
-use Rattle.base.specs.declared.Verdict.the-variants.{Passed, Refused}
+use Rattle.base.specs.declared.Verdict.the-variants.{Refused}
 use Rattle.base.specs.Choice.{not-both, true-or-false}
 use Rattle.base.specs.Refusals.{refuse, first}
 use Rattle.base.specs.RefusalLaws.{first-failed}
@@ -22,12 +23,14 @@ use Rattle.log.specs.Fields.{request-count, server-count}
 use Rattle.log.specs.Conditions.{Accepted}
 use Rattle.log.specs.Contents.{cut}
 use Rattle.log.specs.Cutting.{cut-count}
-use Rattle.model.specs.Rates.{rates, plain, some?, or-zero, offers}
+use Rattle.model.specs.Rates.{Rates, rates, plain, some?, or-zero, offers}
 use Rattle.model.specs.Sums.{total}
 use Rattle.model.specs.Requests.{Requests, Rising, Within}
 use Rattle.model.specs.Schedule.{Row, hold, move, transfer, upload, Feasible, length-of, is-transfer, is-upload, cost-of}
 use Rattle.model.specs.CountLaws.{total-zero}
-use Rattle.model.specs.Marking.{Mark, K, S, U, legal, Valid, cost}
+use Rattle.model.specs.Marking.{Mark, K, S, U, legal, Valid, cost, source, rows}
+use Rattle.model.specs.MarkLaws.{loads-U}
+use Rattle.model.specs.RowMembers.{Made, as-hold, as-transfer, as-upload, rows-row, upload-in}
 use Rattle.model.specs.Plan.{plan, plan-cost, plan-rows, rank, Before}
 use Rattle.model.specs.PlanLaws.{plan-planned}
 use Rattle.model.specs.LogRequests.{requests-in, prices-in}
@@ -41,7 +44,7 @@ use Rattle.guarantees.specs.Demand3.{planned-best}
 -- ---- without an upload price
 
 -- 01's schedules and plan, where no upload price is given
-pub record As-before (p : Prices) (q : Requests) (n : ℕ) : Type 0 where
+pub record Without-uploads (p : Prices) (q : Requests) (n : ℕ) : Type 0 where
   -- no feasible schedule has an upload
   pub no-upload : (rows : List Row) → Feasible (plain p) q n rows → (x τ : ℕ) → List·Memᴰ (move (upload x τ)) rows → ⊥
   -- it costs the hold price × its seconds and the transfer price × its transfers
@@ -83,10 +86,10 @@ first-K S S h x y = absurd (omega arith)
 first-K S U h x y = absurd (y refl)
 first-K U b h x y = absurd (x refl)
 
--- WITHOUT AN UPLOAD PRICE all is as before
-pub as-before : (p : Prices) (q : Requests) (n : ℕ) → As-before p q n
+-- WITHOUT AN UPLOAD PRICE all is as 01 has it
+pub without-uploads : (p : Prices) (q : Requests) (n : ℕ) → Without-uploads p q n
 unfolding cost-of rates or-zero Before
-as-before p q n =
+without-uploads p q n =
     let P = plan-planned (plain p) q n in
     let m = plan (plain p) q n in
     record {
@@ -97,6 +100,36 @@ as-before p q n =
     }
 
 -- ---- with one
+
+-- an upload to x at τ serves a request of the plan that is marked U
+pub record Serves-U (p : Rates) (q : Requests) (n x τ : ℕ) : Type 0 where
+  pub request : ℕ
+  pub first : 1 ≤ request
+  pub upto : request ≤ n
+  pub marked : plan p q n request ≡ U
+  pub target : x ≡ q .server request
+  pub second : τ ≡ q .time request
+
+-- THE UPLOADS among the plan's rows are these: each serves a U, and each U has one
+pub record Uploaded (p : Rates) (count : ℕ) (q : Requests) (n : ℕ) : Type 0 where
+  pub each : (x τ : ℕ) → List·Memᴰ (move (upload x τ)) (plan-rows p q count n) → Serves-U p q n x τ
+  pub every-u : (i : ℕ) → 1 ≤ i → i ≤ n → plan p q n i ≡ U → List·Memᴰ (move (upload (q .server i) (q .time i))) (plan-rows p q count n)
+
+pub uploaded : (p : Rates) (count : ℕ) (q : Requests) (n : ℕ) → Uploaded p count q n
+unfolding plan-rows rows
+uploaded p count q n = record { each = λ x τ r. go (rows-row q m n from count r); every-u = λ i a b e. upload-in q m n from count i a b e }
+  where
+    m : ℕ → Mark
+    m = plan p q n
+
+    from : ℕ → ℕ
+    from = source q count (plan p q n) n
+
+    go : {x τ : ℕ} → Made q m n from count (move (upload x τ)) → Serves-U p q n x τ
+    go (as-hold h) = absurd (let z : _≡_ {A = ℕ} 0 1 = cc (h .is) in omega arith)
+    go (as-transfer h) = absurd (let z : _≡_ {A = ℕ} 0 1 = cc (h .is) in omega arith)
+    go (as-upload h) =
+        record { request = h .request; first = h .first; upto = h .upto; marked = loads-U (m (h .request)) (h .passes); target = cc (h .is); second = cc (h .is) }
 
 -- AN UPLOAD PRICE MAKES NO PLAN DEARER
 pub no-dearer : (p : Prices) (y count : ℕ) (q : Requests) (n : ℕ) → Rising q n → Within count q n
@@ -144,8 +177,8 @@ pub record Price-refused (t : Tariff) (y : ℕ) (log : List ℕ) : Type 0 where
   pub least : (costs : ℕ) → least-verdict t (some y) log costs ≡ out-of-range
   pub check : (rows : List ℕ) → check-verdict-of t (some y) log rows ≡ out-of-range
 
--- WHO IS REFUSED WITH 44: where the log is accepted, exactly those whose price is not from 1 to 1,000,000. A refused log is refused by its own conditions
--- (Calls): they come before
+-- WHO IS REFUSED WITH 44: where the log is accepted, every call whose price is not from 1 to 1,000,000. A refused log is refused by its own conditions,
+-- which come before (Calls)
 pub price-refused : (t : Tariff) (y : ℕ) (log : List ℕ) → Accepted t log → (Taken (some y) → ⊥) → Price-refused t y log
 unfolding plan-verdict least-verdict check-verdict-of check-conditions upload-conditions first
 price-refused t y log a out =

@@ -106,7 +106,7 @@ own-weeks =
     ∷ []
 
 -- week C at an upload price of 1, 10, 11 and 50; and rows of uploads: a transfer fed by an upload of its second, the same rows where no upload price is
--- given, and prices just out of range
+-- given, an upload of another second, and prices about both ends of the range
 unfoldable pub upload-weeks : List Week
 upload-weeks =
     uploading week-c 1 4 (u ∷ u ∷ u ∷ u ∷ []) (2 ∷ 1 ∷ 1 ∷ 0 ∷ 2 ∷ 2 ∷ 2 ∷ 0 ∷ 2 ∷ 1 ∷ 11 ∷ 0 ∷ 2 ∷ 0 ∷ 12 ∷ 0 ∷ [])

@@ -5,11 +5,11 @@ use mathlib.Core.Path.{_≡_, refl}
 use native.Mathlib.Omega.{arith}
 use Prim.Native.Nat.{ℕ, zero, suc, pred, _-_, _*_, _≤_, _<_, min}
 use lib.Dec.{eqb}
-use Rattle.model.specs.Rates.{Rates, some?}
+use Rattle.model.specs.Rates.{Rates}
 use Rattle.model.specs.Requests.{Requests, latest, previous}
 use Rattle.model.specs.RequestLaws.{previous-some}
 use Rattle.model.specs.Marking.{Mark, K, S, U, legal, gap}
-use Rattle.model.specs.Table.{open-gap, table, send-price, cheaper, away-price, may-leave, best}
+use Rattle.model.specs.Table.{open-gap, table, send-price, away-price, may-leave, best}
 
 -- they agree up to request n
 pub record Alike (q q′ : Requests) (n : ℕ) : Type 0 where

@@ -12,7 +12,7 @@ use Rattle.model.specs.Rates.{Rates, some?}
 use Rattle.model.specs.Requests.{Requests, previous}
 use Rattle.model.specs.RequestLaws.{previous-none, previous-next}
 use Rattle.model.specs.Marking.{Mark, K, S, U, keeps, legal}
-use Rattle.model.specs.Table.{table, send-price, cheaper, away-price, free-price, may-leave, free, best}
+use Rattle.model.specs.Table.{table, send-price, cheaper, away-price, may-leave, best}
 use Rattle.model.specs.TableLaws.{span, May, table-away, table-kept}
 use Rattle.model.specs.Leaving.{leave-price, may-by, away-least}
 
@@ -82,14 +82,7 @@ module _ (p : Rates) (q : Requests) where
 
   -- ---- without an upload price
   module _ (none-given : p .upload ≡ none) where
-    -- the table where S is allowed everywhere
-    pub free-plain : free p q ≡ table p q (λ i. true) (send-price p q)
-    unfolding free free-price cheaper
-    free-plain =
-        ap (λ (a : ℕ → ℕ → ℕ). table p q (λ i. true) a)
-        (fun-ext (λ i. fun-ext (λ c. ap (λ (u : Option ℕ). cheaper u true (send-price p q i c)) none-given)))
-
-    -- and the table of the legal markings, where what is not kept is S
+    -- the table of the legal markings: what is not kept is S
     pub best-plain : best p q ≡ table p q (λ i. legal p q i S) (send-price p q)
     unfolding best away-price cheaper may-leave legal some?
     best-plain =

@@ -16,7 +16,7 @@ use Rattle.model.specs.Quote.{least-own}
 use Rattle.model.specs.Marking.{S, keeps, loads, legal, fee}
 use Rattle.model.specs.Table.{open-gap, table, send-price, away-price, may-leave, best}
 use Rattle.model.specs.TableLaws.{held, span, open-gap-shut, open-gap-open, send-fair, Attained, gone, kept, table-cases, table-rises, table-slope-upto}
-use Rattle.model.specs.Leaving.{leave-price, cheaper-fair}
+use Rattle.model.specs.Leaving.{cheaper-fair}
 use Rattle.model.specs.BestLaws.{forced-next, best-zero, best-leave, best-K, best-plain}
 
 module _ (p : Rates) (q : Requests) where

@@ -2,12 +2,12 @@
 use mathlib.Core.Bool.{Bool, true, not}
 use mathlib.Core.List.{List, [], _∷_, _++_}
 use mathlib.Core.Path.{_≡_}
-use Prim.Native.Nat.{ℕ, suc, pred, _+_, _*_, _/_, _%_, _≤_, _<_}
+use Prim.Native.Nat.{ℕ, suc, pred, _+_, _*_, _/_, _%_, _<_}
 use lib.Dec.{ltb, eqb}
 use lib.ListN.{getD, length}
 use Rattle.base.specs.Choice.{pick, both, either}
 use Rattle.base.specs.Refusals.{Condition, refuse, each}
-use Rattle.model.specs.Rates.{Rates, some?, offers}
+use Rattle.model.specs.Rates.{Rates, offers}
 use Rattle.model.specs.Requests.{Requests}
 use Rattle.model.specs.Schedule.{Row, hold, move, transfer, upload, Feasible, cost-of}
 use Rattle.model.specs.Standing.{stands}

@@ -4,7 +4,7 @@ use mathlib.Core.List.{List, [], _∷_, _++_, List·Memᴰ}
 use mathlib.Core.Logic.{_↔_}
 use mathlib.Core.Path.{_≡_, refl, sym, ap, _∙_}
 use native.Mathlib.Omega.{arith}
-use Prim.Native.Nat.{ℕ, zero, suc, _*_, _%_, _≤_, _<_}
+use Prim.Native.Nat.{ℕ, zero, suc, _%_, _≤_, _<_}
 use lib.Dec.{eqb}
 use lib.ListN.{length}
 use borrow.Author.Tests.{eqb-true, eqb-false, lt-ltb, ne-eqb, not-false}
@@ -21,7 +21,7 @@ use Rattle.model.specs.StandingLaws.{stands-sound, stands-complete}
 use Rattle.model.specs.RowForm.{flat, row-at, rows-of, fits, follows, well-formed}
 use Rattle.model.specs.RowLaws.{fits-move, row-member, member-row, Formed, formed, well-formed-of, ordered-follows, follows-ordered}
 use Rattle.model.specs.FlatLaws.{rows-of-flat, flat-length, flat-kinds, row-offers}
-use Rattle.model.specs.Checking.{row-count, kind-fits, kind-of, misfits, misplaced, row-conditions, backed, copy-condition, serve-condition, form-conditions, schedule-conditions, check-cost, Scheduled}
+use Rattle.model.specs.Checking.{row-count, kind-of, misfits, misplaced, row-conditions, backed, copy-condition, serve-condition, form-conditions, schedule-conditions, check-cost, Scheduled}
 
 -- ---- what each condition's failing says
 

@@ -9,7 +9,7 @@ use Prim.Native.Nat.{ℕ, suc, _+_, _-_, _*_, _^_, _≤_, _<_}
 use lib.Dec.{ltb, eqb}
 use borrow.Author.Tests.{ltb-true, eqb-true}
 use Rattle.base.specs.Choice.{both, either, not-both}
-use Rattle.model.specs.Rates.{Rates, or-zero, upload-fee}
+use Rattle.model.specs.Rates.{Rates, upload-fee}
 use Rattle.model.specs.Sums.{total}
 use Rattle.model.specs.Schedule.{Row, hold, move, transfer, upload, length-of, is-transfer, is-upload, cost-of}
 use Rattle.base.specs.ChoiceLaws.{both-true, either-true}

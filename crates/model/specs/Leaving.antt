@@ -52,33 +52,28 @@ record Chosen (u : Option ℕ) (b : Bool) (s : ℕ) : Type 0 where
   lawful : either b (some? u) ≡ true → allowed u b (cheaper-mark u b s) ≡ true
   first : (a : Mark) → allowed u b a ≡ true → adds u s a ≤ cheaper u b s → rank (cheaper-mark u b s) ≤ rank a
 
+-- K may not stand there, so the rank is 1 at least
+not-first : (u : Option ℕ) (b : Bool) (a : Mark) → allowed u b a ≡ true → 1 ≤ rank a
+unfolding allowed rank
+not-first u b K e = absurd (not-both e refl)
+not-first u b S e = omega arith
+not-first u b U e = omega arith
+
 chosen : (u : Option ℕ) (b : Bool) (s : ℕ) → Chosen u b s
 unfolding cheaper cheaper-mark adds allowed keeps rank some? or-zero
-chosen none true s = record { paid = refl; away = refl; lawful = λ e. e; first = first }
+chosen none b s = record { paid = refl; away = refl; lawful = λ e. legal-by b e; first = λ a e h. not-first none b a e }
   where
-    first : (a : Mark) → allowed none true a ≡ true → adds none s a ≤ s → 1 ≤ rank a
-    first K e h = absurd (not-both e refl)
-    first S e h = omega arith
-    first U e h = omega arith
-chosen none false s = record { paid = refl; away = refl; lawful = λ e. e; first = first }
+    legal-by : (b : Bool) → either b false ≡ true → b ≡ true
+    legal-by true e = refl
+    legal-by false e = e
+chosen (some y) false s = record { paid = refl; away = refl; lawful = λ e. refl; first = λ a e h. only a e }
   where
-    first : (a : Mark) → allowed none false a ≡ true → adds none s a ≤ s → 1 ≤ rank a
-    first K e h = absurd (not-both e refl)
-    first S e h = omega arith
-    first U e h = omega arith
-chosen (some y) false s = record { paid = refl; away = refl; lawful = λ e. refl; first = first }
-  where
-    first : (a : Mark) → allowed (some y) false a ≡ true → adds (some y) s a ≤ y → 2 ≤ rank a
-    first K e h = absurd (not-both e refl)
-    first S e h = absurd (not-both e refl)
-    first U e h = omega arith
+    only : (a : Mark) → allowed (some y) false a ≡ true → 2 ≤ rank a
+    only K e = absurd (not-both e refl)
+    only S e = absurd (not-both e refl)
+    only U e = omega arith
 chosen (some y) true s = go (le-or-lt s y)
   where
-    early : s ≤ y → (a : Mark) → allowed (some y) true a ≡ true → 1 ≤ rank a
-    early h K e = absurd (not-both e refl)
-    early h S e = omega arith
-    early h U e = omega arith
-
     late : y < s → (a : Mark) → allowed (some y) true a ≡ true → adds (some y) s a ≤ min s y → 2 ≤ rank a
     late h K e l = absurd (not-both e refl)
     late h S e l = absurd (omega arith)
@@ -87,7 +82,7 @@ chosen (some y) true s = go (le-or-lt s y)
     go : (s ≤ y) ⊎ (y < s) → Chosen (some y) true s
     go (inl h) =
         let e : cheaper-mark (some y) true s ≡ S = rw (le-leb s y h) in
-        record { paid = rw e (omega arith); away = rw e; lawful = λ z. rw e; first = λ a z l. rw e (early h a z) }
+        record { paid = rw e (omega arith); away = rw e; lawful = λ z. rw e; first = λ a z l. rw e (not-first (some y) true a z) }
     go (inr h) =
         let e : cheaper-mark (some y) true s ≡ U = rw (lt-leb s y h) in
         record { paid = rw e (omega arith); away = rw e; lawful = λ z. rw e; first = λ a z l. rw e (late h a z l) }

@@ -10,7 +10,7 @@ use native.Mathlib.Nat.{mul-add, mul-le-mul-left, mul-le-mul-right}
 use native.Mathlib.Omega.{arith}
 use Prim.Native.Nat.{ℕ, suc, pred, _+_, _-_, _*_, _≤_, _<_}
 use lib.Dec.{leb, ltb}
-use borrow.Author.Tests.{lt-ltb, ltb-true, le-leb, leb-true, le-ltb}
+use borrow.Author.Tests.{lt-ltb, ltb-true, leb-true, le-ltb}
 use Rattle.base.specs.Choice.{pick, both, le-or-lt, true-or-false, not-both}
 use Rattle.base.specs.ChoiceLaws.{both-true}
 use Rattle.model.specs.Rates.{Rates, some?, offers, upload-fee}
@@ -127,7 +127,7 @@ feeds-all q n rows r =
     one (move (transfer y x τ)) = omega (arith, sum-zero n (λ i. 0) (λ i a b. refl))
     one (move (upload x τ)) = sum-once n (λ i. both (ltb (q .time (pred i)) τ) (leb τ (q .time i))) (apart τ)
 
--- s S and l U for s + l moves or more, of which l or more are uploads, cost no more than those, where an upload costs no less than a transfer
+-- s S and l U cost no more than t transfers and u uploads, if s + l ≤ t + u and l ≤ u, and an upload is no cheaper than a transfer or there is none
 blend : (x y s l t u : ℕ) → s + l ≤ t + u → l ≤ u → (x ≤ y) ⊎ (u ≡ 0) → x * s + y * l ≤ x * t + y * u
 blend x y s l t u h k (inr z) =
     let e : l ≡ 0 = omega arith in
@@ -151,7 +151,7 @@ record Choice (p : Rates) (q : Requests) (n : ℕ) (rows : List Row) (choice : �
   offered : (i : ℕ) → i < n → choice (suc i) ≡ U → legal p q (suc i) U ≡ true
   covered : (l τ : ℕ) → l < n → choice (suc l) ≡ S → q .time l < τ → τ ≤ q .time (suc l) → 1 ≤ copies rows τ
 
--- what a mark is where it is not K
+-- a mark that is not K differs from it
 not-K : (a : Mark) → keeps a ≡ false → K ≡ a → ⊥
 unfolding keeps
 not-K a e z = not-both (rw (← z)) e

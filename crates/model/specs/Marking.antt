@@ -7,7 +7,7 @@ use Prim.Native.Nat.{ℕ, zero, suc, pred, _+_, _-_, _*_, _≤_, _<_}
 use lib.Dec.{leb, ltb, eqb}
 use Rattle.base.specs.Choice.{pick, both, either}
 use Rattle.base.specs.Nearest.{nearest}
-use Rattle.model.specs.Rates.{Rates, some?, or-zero, offers, upload-fee}
+use Rattle.model.specs.Rates.{Rates, some?, offers, upload-fee}
 use Rattle.model.specs.Sums.{sum}
 use Rattle.model.specs.Requests.{Requests, previous}
 use Rattle.model.specs.Schedule.{Row, hold, move, transfer, upload}
@@ -37,7 +37,7 @@ loads S = false
 loads U = true
 
 -- K needs a previous request at the server, so a server's first request, home excepted, is S or U;
--- S needs another server than that of the request before, home being before request 1, so there it is K or U; U needs an upload price
+-- S needs another server than that of the request before (home before request 1), so a request at the same server is K or U; U needs an upload price
 unfoldable pub legal : Rates → Requests → ℕ → Mark → Bool
 legal p q i K = some? (previous q i)
 legal p q i S = not (eqb (q .server i) (q .server (pred i)))
@@ -47,11 +47,11 @@ legal p q i U = offers p
 abbrev pub Valid : Rates → Requests → (ℕ → Mark) → ℕ → Type 0
 Valid p q m n = (i : ℕ) → 1 ≤ i → i ≤ n → legal p q i (m i) ≡ true
 
--- the requests among the first n that are S
+-- how many of the first n requests are S
 unfoldable pub sent : (ℕ → Mark) → ℕ → ℕ
 sent m n = sum n (λ i. pick (sends (m i)) 1 0)
 
--- and those that are U
+-- and how many are U
 unfoldable pub loaded : (ℕ → Mark) → ℕ → ℕ
 loaded m n = sum n (λ i. pick (loads (m i)) 1 0)
 
@@ -85,13 +85,13 @@ covered q m n k = any n (λ i. spans q m i k)
 unfoldable pub holds : Requests → (ℕ → Mark) → ℕ → ℕ → ℕ → Bool
 holds q m n k y = pick (covered q m n k) (any n (λ i. both (eqb (q .server i) y) (spans q m i k))) (both (not (loads (m k))) (eqb y (q .server (pred k))))
 
--- what brings a copy to a request that is not kept: an upload for U, else a transfer
+-- the price of bringing a copy to a request that is not kept: the upload price for U, else the transfer price
 unfoldable pub fee : Rates → Mark → ℕ
 fee p K = p .transfer
 fee p S = p .transfer
 fee p U = upload-fee p
 
--- what request i costs by its mark: the hold price over its span, or what brings a copy there
+-- what request i costs by its mark: the hold price over its span, or the price of bringing a copy there
 unfoldable pub own : Rates → Requests → Option ℕ → Mark → ℕ → ℕ
 own p q none a i = fee p a
 own p q (some j) a i = p .hold * (q .time i - q .time j)

@@ -87,7 +87,7 @@ module _ (test : Mark → Bool) (row : ℕ → Row) (m : ℕ → Mark) where
       go true o = ordered-append (moved test row m i) (row (suc i) ∷ []) o refl next
       go false o = ordered-append (moved test row m i) [] o refl (λ r s x z. absurd (List·Memᴰ·not-nil z))
 
-module _ (q : Requests) (m : ℕ → Mark) where
+module _ (q : Requests) where
   -- the transfer to request i from its source
   abbrev pub sending : (ℕ → ℕ) → ℕ → Row
   sending from i = move (transfer (from i) (q .server i) (q .time i))
@@ -96,13 +96,14 @@ module _ (q : Requests) (m : ℕ → Mark) where
   abbrev pub loading : ℕ → Row
   loading i = move (upload (q .server i) (q .time i))
 
-  -- the transfers and the uploads are such rows
-  pub transfers-moved : (from : ℕ → ℕ) (i : ℕ) → transfers q m from i ≡ moved sends (sending from) m i
+  -- the transfers of a marking are such rows
+  pub transfers-moved : (m : ℕ → Mark) (from : ℕ → ℕ) (i : ℕ) → transfers q m from i ≡ moved sends (sending from) m i
   unfolding transfers moved
-  transfers-moved from zero = refl
-  transfers-moved from (suc i) = ap (λ (rs : List Row). rs ++ pick (sends (m (suc i))) (sending from (suc i) ∷ []) []) (transfers-moved from i)
+  transfers-moved m from zero = refl
+  transfers-moved m from (suc i) = ap (λ (rs : List Row). rs ++ pick (sends (m (suc i))) (sending from (suc i) ∷ []) []) (transfers-moved m from i)
 
-  pub uploads-moved : (i : ℕ) → uploads q m i ≡ moved loads loading m i
+  -- and its uploads
+  pub uploads-moved : (m : ℕ → Mark) (i : ℕ) → uploads q m i ≡ moved loads loading m i
   unfolding uploads moved
-  uploads-moved zero = refl
-  uploads-moved (suc i) = ap (λ (rs : List Row). rs ++ pick (loads (m (suc i))) (loading (suc i) ∷ []) []) (uploads-moved i)
+  uploads-moved m zero = refl
+  uploads-moved m (suc i) = ap (λ (rs : List Row). rs ++ pick (loads (m (suc i))) (loading (suc i) ∷ []) []) (uploads-moved m i)

@@ -13,7 +13,7 @@ use Rattle.model.specs.Sums.{sum}
 use Rattle.model.specs.SumLaws.{sum-same}
 use Rattle.model.specs.Requests.{Requests, previous}
 use Rattle.model.specs.RequestLaws.{previous-some, none-some}
-use Rattle.model.specs.Marking.{Mark, K, S, U, keeps, loads, gap, begin, after, spans, any, covered, fee, own, asked, cost, Valid}
+use Rattle.model.specs.Marking.{Mark, K, S, U, keeps, loads, begin, after, spans, any, covered, own, asked, cost, Valid}
 use Rattle.model.specs.LegalLaws.{kept-from}
 use Rattle.model.specs.Table.{open-gap, table, best}
 use Rattle.model.specs.TableLaws.{span}

@@ -1,8 +1,8 @@
 -- The plan is 01's: a legal marking, of the least cost of all, before all others of that cost; it costs what the table says, and no other marking is such.
 -- The list of legal markings has each of them and is in the order of the tie rule, so the first of its least ones is the plan.
 use mathlib.Core.Bool.{Bool, true, false}
-use mathlib.Core.List.{List, [], _∷_, _++_, map, List·Memᴰ, List·Memᴰ·head, List·Memᴰ·not-nil, List·Memᴰ·append-cases, Memᴰ·append-left, Memᴰ·append-right, Memᴰ·map, Memᴰ·of-map}
-use mathlib.Core.Logic.{_⊎_, inl, inr, _≢_}
+use mathlib.Core.List.{List, [], _++_, map, List·Memᴰ, List·Memᴰ·head, List·Memᴰ·not-nil, List·Memᴰ·append-cases, Memᴰ·append-left, Memᴰ·append-right, Memᴰ·map, Memᴰ·of-map}
+use mathlib.Core.Logic.{_⊎_, inl, inr}
 use mathlib.Core.Option.{Option, none, some}
 use mathlib.Core.Path.{_≡_, refl, sym, ap, _∙_}
 use native.Mathlib.Omega.{arith}
@@ -13,7 +13,7 @@ use Rattle.model.specs.Rates.{Rates}
 use Rattle.model.specs.Requests.{Requests, previous}
 use Rattle.model.specs.RequestLaws.{none-some}
 use Rattle.model.specs.Marking.{Mark, K, S, U, legal, Valid, cost}
-use Rattle.model.specs.Plan.{put-mark, markings, least-of, plan, plan-cost, Agree, rank, Before, Planned}
+use Rattle.model.specs.Plan.{put-mark, markings, plan, plan-cost, Agree, rank, Before, Planned}
 use Rattle.model.specs.Table.{away-mark, may-leave, best}
 use Rattle.model.specs.BestLaws.{may-none, with-away, with-K, best-none, best-forced, best-both}
 use Rattle.model.specs.PartCost.{part-cost, part-same}

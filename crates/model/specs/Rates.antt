@@ -4,7 +4,7 @@ use mathlib.Core.Option.{Option, none, some}
 use Prim.Native.Nat.{ℕ}
 use Rattle.prices.specs.declared.Prices.{Prices}
 
--- 0 is no upload price and is told apart from none being given
+-- hold and transfer price, and the upload price if one is given: none is not 0
 pub record Rates : Type 0 where
   pub hold : ℕ
   pub transfer : ℕ

@@ -50,8 +50,8 @@ module _ (q : Requests) (m : ℕ → Mark) (n : ℕ) where
     -- what a row of a marking is: a hold over a run, a transfer to a request marked S, or an upload to one marked U
     pub data Made (count : ℕ) (r : Row) : Type 0 where
       as-hold : Held count r → Made count r
-      as-transfer : Moved sends (sending q m from) m n r → Made count r
-      as-upload : Moved loads (loading q m) m n r → Made count r
+      as-transfer : Moved sends (sending q from) m n r → Made count r
+      as-upload : Moved loads (loading q) m n r → Made count r
 
     -- each is one of them
     pub rows-row : {r : Row} (count : ℕ) → List·Memᴰ r (rows-from q count m n from) → Made count r
@@ -59,8 +59,8 @@ module _ (q : Requests) (m : ℕ → Mark) (n : ℕ) where
     rows-row {r} count x = go (List·Memᴰ·append-cases (all-holds q m n count) x)
       where
         moves : List·Memᴰ r (transfers q m from n) ⊎ List·Memᴰ r (uploads q m n) → Made count r
-        moves (inl z) = as-transfer (moved-row sends (sending q m from) m n (rw (transfers-moved q m from n) at z))
-        moves (inr z) = as-upload (moved-row loads (loading q m) m n (rw (uploads-moved q m n) at z))
+        moves (inl z) = as-transfer (moved-row sends (sending q from) m n (rw (transfers-moved q m from n) at z))
+        moves (inr z) = as-upload (moved-row loads (loading q) m n (rw (uploads-moved q m n) at z))
 
         go : List·Memᴰ r (all-holds q m n count) ⊎ List·Memᴰ r (transfers q m from n ++ uploads q m n) → Made count r
         go (inl z) = as-hold (all-holds-row count z)
@@ -72,15 +72,15 @@ module _ (q : Requests) (m : ℕ → Mark) (n : ℕ) where
     hold-in count y h x = Memᴰ·append-left (transfers q m from n ++ uploads q m n) (all-holds-in count y h x)
 
     -- and the transfer to each request marked S
-    pub transfer-in : (count l : ℕ) → 1 ≤ l → l ≤ n → m l ≡ S → List·Memᴰ (sending q m from l) (rows-from q count m n from)
+    pub transfer-in : (count l : ℕ) → 1 ≤ l → l ≤ n → m l ≡ S → List·Memᴰ (sending q from l) (rows-from q count m n from)
     unfolding rows-from sends
     transfer-in count l a b e =
-        let x : List·Memᴰ (sending q m from l) (transfers q m from n) = rw (transfers-moved q m from n) (moved-in sends (sending q m from) m n l a b (rw e)) in
+        let x : List·Memᴰ (sending q from l) (transfers q m from n) = rw (transfers-moved q m from n) (moved-in sends (sending q from) m n l a b (rw e)) in
         Memᴰ·append-right (all-holds q m n count) (Memᴰ·append-left (uploads q m n) x)
 
     -- and the upload to each marked U
-    pub upload-in : (count l : ℕ) → 1 ≤ l → l ≤ n → m l ≡ U → List·Memᴰ (loading q m l) (rows-from q count m n from)
+    pub upload-in : (count l : ℕ) → 1 ≤ l → l ≤ n → m l ≡ U → List·Memᴰ (loading q l) (rows-from q count m n from)
     unfolding rows-from loads
     upload-in count l a b e =
-        let x : List·Memᴰ (loading q m l) (uploads q m n) = rw (uploads-moved q m n) (moved-in loads (loading q m) m n l a b (rw e)) in
+        let x : List·Memᴰ (loading q l) (uploads q m n) = rw (uploads-moved q m n) (moved-in loads (loading q) m n l a b (rw e)) in
         Memᴰ·append-right (all-holds q m n count) (Memᴰ·append-right (transfers q m from n) x)

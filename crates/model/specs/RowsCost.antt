@@ -59,12 +59,12 @@ module _ (q : Requests) (m : ℕ → Mark) (n : ℕ) where
   all-holds-total w (suc c) = omega (arith, total-append w (all-holds q m n c) (holds-at c), all-holds-total w c)
 
   -- a number over the transfers, request by request
-  transfers-total : (from : ℕ → ℕ) (w : Row → ℕ) → total w (transfers q m from n) ≡ sum n (λ l. pick (sends (m l)) (w (sending q m from l)) 0)
-  transfers-total from w = rw (transfers-moved q m from n) (moved-total sends (sending q m from) m w n)
+  transfers-total : (from : ℕ → ℕ) (w : Row → ℕ) → total w (transfers q m from n) ≡ sum n (λ l. pick (sends (m l)) (w (sending q from l)) 0)
+  transfers-total from w = rw (transfers-moved q m from n) (moved-total sends (sending q from) m w n)
 
   -- and over the uploads
-  uploads-total : (w : Row → ℕ) → total w (uploads q m n) ≡ sum n (λ l. pick (loads (m l)) (w (loading q m l)) 0)
-  uploads-total w = rw (uploads-moved q m n) (moved-total loads (loading q m) m w n)
+  uploads-total : (w : Row → ℕ) → total w (uploads q m n) ≡ sum n (λ l. pick (loads (m l)) (w (loading q l)) 0)
+  uploads-total w = rw (uploads-moved q m n) (moved-total loads (loading q) m w n)
 
   -- and over all rows
   rows-total : (count : ℕ) (from : ℕ → ℕ) (w : Row → ℕ)
@@ -182,11 +182,11 @@ module _ (q : Requests) (count : ℕ) (m : ℕ → Mark) (n : ℕ) where
   unfolding cost-of length-of is-transfer is-upload
   rows-cost from rise within p valid = rw (all-seconds, all-transfers, all-uploads, cost-parts q m n p valid)
     where
-      no-hold : (w : Row → ℕ) → ((l : ℕ) → w (sending q m from l) ≡ 0) → total w (transfers q m from n) ≡ 0
-      no-hold w z = rw (transfers-moved q m from n) (moved-none sends (sending q m from) m w z n)
+      of-transfers : (w : Row → ℕ) → ((l : ℕ) → w (sending q from l) ≡ 0) → total w (transfers q m from n) ≡ 0
+      of-transfers w z = rw (transfers-moved q m from n) (moved-none sends (sending q from) m w z n)
 
-      no-move : (w : Row → ℕ) → ((l : ℕ) → w (loading q m l) ≡ 0) → total w (uploads q m n) ≡ 0
-      no-move w z = rw (uploads-moved q m n) (moved-none loads (loading q m) m w z n)
+      of-uploads : (w : Row → ℕ) → ((l : ℕ) → w (loading q l) ≡ 0) → total w (uploads q m n) ≡ 0
+      of-uploads w z = rw (uploads-moved q m n) (moved-none loads (loading q) m w z n)
 
       all-seconds : total length-of (rows-from q count m n from) ≡ sum n (kept q m n) + sum n (bare q m n)
       all-seconds =
@@ -194,8 +194,8 @@ module _ (q : Requests) (count : ℕ) (m : ℕ → Mark) (n : ℕ) where
             arith,
             rows-total q m n count from length-of,
             held-seconds q m n count within rise,
-            no-hold length-of (λ l. refl),
-            no-move length-of (λ l. refl),
+            of-transfers length-of (λ l. refl),
+            of-uploads length-of (λ l. refl),
           )
 
       all-transfers : total is-transfer (rows-from q count m n from) ≡ sum n (sent q m n)
@@ -205,7 +205,7 @@ module _ (q : Requests) (count : ℕ) (m : ℕ → Mark) (n : ℕ) where
             rows-total q m n count from is-transfer,
             total-zero is-transfer (all-holds q m n count) (λ r x. rw ((all-holds-row q m n count x) .is)),
             transfers-total q m n from is-transfer,
-            no-move is-transfer (λ l. refl),
+            of-uploads is-transfer (λ l. refl),
           )
 
       all-uploads : total is-upload (rows-from q count m n from) ≡ sum n (loaded q m n)
@@ -214,7 +214,7 @@ module _ (q : Requests) (count : ℕ) (m : ℕ → Mark) (n : ℕ) where
             arith,
             rows-total q m n count from is-upload,
             total-zero is-upload (all-holds q m n count) (λ r x. rw ((all-holds-row q m n count x) .is)),
-            no-hold is-upload (λ l. refl),
+            of-transfers is-upload (λ l. refl),
             uploads-total q m n is-upload,
           )
 

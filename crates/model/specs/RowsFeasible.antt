@@ -1,7 +1,6 @@
 -- The rows of a legal marking are feasible, whichever holder is the source of each transfer.
 use mathlib.Core.Bool.{true}
 use mathlib.Core.List.{List·Memᴰ}
-use mathlib.Core.Logic.{_⊎_, inl, inr}
 use mathlib.Core.Path.{_≡_, refl}
 use native.Mathlib.Omega.{arith}
 use Prim.Native.Nat.{ℕ, zero, suc, _≤_, _<_}

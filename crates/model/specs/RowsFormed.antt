@@ -74,11 +74,11 @@ module _ (q : Requests) (m : ℕ → Mark) (n : ℕ) (rise : Rising q n) where
   transfers-ordered : (from : ℕ → ℕ) → ordered (transfers q m from n) ≡ true
   unfolding follows earlier
   transfers-ordered from =
-      rw (transfers-moved q m from n) (moves-ordered sends (sending q m from) (λ l k h. rw (lt-ltb (q .time l) (q .time k) h)))
+      rw (transfers-moved q m from n) (moves-ordered sends (sending q from) (λ l k h. rw (lt-ltb (q .time l) (q .time k) h)))
 
   uploads-ordered : ordered (uploads q m n) ≡ true
   unfolding follows earlier
-  uploads-ordered = rw (uploads-moved q m n) (moves-ordered loads (loading q m) (λ l k h. rw (lt-ltb (q .time l) (q .time k) h)))
+  uploads-ordered = rw (uploads-moved q m n) (moves-ordered loads (loading q) (λ l k h. rw (lt-ltb (q .time l) (q .time k) h)))
 
 module _ (p : Rates) (q : Requests) (count : ℕ) (m : ℕ → Mark) (n : ℕ) (from : ℕ → ℕ)
     (rise : Rising q n) (within : Within count q n) (valid : Valid p q m n) (good : Good count q m n from) where
@@ -130,10 +130,10 @@ module _ (p : Rates) (q : Requests) (count : ℕ) (m : ℕ → Mark) (n : ℕ) (
       uploads-after : (r s : Row) → List·Memᴰ r (transfers q m from n) → List·Memᴰ s (uploads q m n) → follows r s ≡ true
       uploads-after r s x z =
           rw (
-            (moved-row sends (sending q m from) m n (rw (transfers-moved q m from n) at x)) .is,
-            (moved-row loads (loading q m) m n (rw (uploads-moved q m n) at z)) .is,
+            (moved-row sends (sending q from) m n (rw (transfers-moved q m from n) at x)) .is,
+            (moved-row loads (loading q) m n (rw (uploads-moved q m n) at z)) .is,
           )
 
       moves-after : (r s : Row) → List·Memᴰ r (all-holds q m n count) → List·Memᴰ s (transfers q m from n) ⊎ List·Memᴰ s (uploads q m n) → follows r s ≡ true
-      moves-after r s x (inl z) = rw ((all-holds-row q m n count x) .is, (moved-row sends (sending q m from) m n (rw (transfers-moved q m from n) at z)) .is)
-      moves-after r s x (inr z) = rw ((all-holds-row q m n count x) .is, (moved-row loads (loading q m) m n (rw (uploads-moved q m n) at z)) .is)
+      moves-after r s x (inl z) = rw ((all-holds-row q m n count x) .is, (moved-row sends (sending q from) m n (rw (transfers-moved q m from n) at z)) .is)
+      moves-after r s x (inr z) = rw ((all-holds-row q m n count x) .is, (moved-row loads (loading q) m n (rw (uploads-moved q m n) at z)) .is)

@@ -1,9 +1,9 @@
--- Schedules, as 01's 'Schedules' words them: rows, where a copy stands, feasible, cost. Assumes nothing.
+-- Schedules, as 01's 'Schedules' words them, with the uploads of 02's Req 11: rows, where a copy stands, feasible, cost. Assumes nothing.
 use mathlib.Core.Bool.{true}
 use mathlib.Core.List.{List, List·Memᴰ}
 use mathlib.Core.Path.{_≡_}
 use Prim.Native.Nat.{ℕ, _+_, _-_, _*_, _≤_, _<_}
-use Rattle.model.specs.Rates.{Rates, some?, or-zero, offers, upload-fee}
+use Rattle.model.specs.Rates.{Rates, offers, upload-fee}
 use Rattle.model.specs.Sums.{total}
 use Rattle.model.specs.Requests.{Requests}
 
@@ -17,13 +17,14 @@ pub data Row : Type 0 where
   hold : ℕ → ℕ → ℕ → Row
   move : Move → Row
 
--- A copy stands at a server at a second: at home at 0; where a hold began before and reaches it; where an upload of
--- that second brings it; where a transfer of that second arrives from a server where it stands. The least such relation, so a cycle of transfers with no copy behind it gives none.
+-- A copy stands at a server at a second: at home at 0; where a hold began before and reaches it; where a transfer of that second
+-- arrives from a server where it stands; where an upload of that second brings it. The least such relation, so a cycle of transfers with
+-- no copy behind it gives none.
 pub data Stands (home : ℕ) (rows : List Row) : ℕ → ℕ → Type 0 where
   at-home : Stands home rows home 0
   held : {x a b τ : ℕ} → List·Memᴰ (hold x a b) rows → a < τ → τ ≤ b → Stands home rows x τ
-  uploaded : {x τ : ℕ} → List·Memᴰ (move (upload x τ)) rows → Stands home rows x τ
   arrived : {x y τ : ℕ} → List·Memᴰ (move (transfer y x τ)) rows → Stands home rows y τ → Stands home rows x τ
+  uploaded : {x τ : ℕ} → List·Memᴰ (move (upload x τ)) rows → Stands home rows x τ
 
 -- a copy stands where and when a row begins: a hold at its start, a transfer at its source; an upload asks for none
 unfoldable pub Backed : ℕ → List Row → Row → Type 0

@@ -10,8 +10,8 @@ use Rattle.model.specs.Schedule.{Row, hold, move, transfer, upload}
 -- with the server of a hold that began before second τ and reaches it, or of an upload at τ
 unfoldable pub reach : ℕ → ℕ → Row → ℕ
 reach τ w (hold x a b) = pick (both (ltb a τ) (leb τ b)) (put w x) w
-reach τ w (move (upload x σ)) = pick (eqb σ τ) (put w x) w
 reach τ w (move (transfer y x σ)) = w
+reach τ w (move (upload x σ)) = pick (eqb σ τ) (put w x) w
 
 -- with the target of a transfer at τ whose source is in the set
 unfoldable pub arrive : ℕ → ℕ → Row → ℕ

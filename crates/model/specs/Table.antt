@@ -28,7 +28,7 @@ table p q allow away (suc i) c =
 unfoldable pub send-price : Rates → Requests → ℕ → ℕ → ℕ
 send-price p q i c = p .transfer + open-gap p q i c
 
--- what a request that is not kept adds, of S for s, where it may be S, and U for an upload price, where there is one: the lesser
+-- what a request that is not kept adds: the lesser of s, which S adds, where it may be S, and the upload price, where there is one
 unfoldable pub cheaper : Option ℕ → Bool → ℕ → ℕ
 cheaper none b s = s
 cheaper (some y) b s = pick b (min s y) y

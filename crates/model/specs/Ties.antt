@@ -13,8 +13,8 @@ use Rattle.model.specs.Marking.{Mark, K, S, U, keeps, legal, Valid, cost
 use Rattle.model.specs.Plan.{Agree, rank, Before, Planned}
 use Rattle.model.specs.MarkLaws.{same-mark, rank-K}
 use Rattle.model.specs.LegalLaws.{kept-from}
-use Rattle.model.specs.Table.{table, away-price, away-mark, may-leave, best}
-use Rattle.model.specs.Leaving.{leave-price, away-leaves, away-paid, away-legal, away-first}
+use Rattle.model.specs.Table.{table, away-mark, may-leave, best}
+use Rattle.model.specs.Leaving.{away-leaves, away-paid, away-legal, away-first}
 use Rattle.model.specs.BestLaws.{legal-K, with-away, with-K}
 use Rattle.model.specs.PartCost.{part, part-cost, part-leave, part-K, part-same, best-part, best-cost}
 

@@ -52,7 +52,7 @@ unfolding loaded
 loaded-refused Passed s₀ x r e f = absurd (let z : _≡_ {A = ℕ} 0 1 = cc in omega arith)
 loaded-refused (Refused r′) s₀ x r e f = cc
 
--- where both passed, the log is accepted and its upload price too
+-- where both passed, the log and the upload price are accepted
 pub offer-passed : (t : Tariff) (u : Option ℕ) (log : List ℕ) → offer-verdict t u log ≡ Passed → Accepted t log × (first (upload-conditions u) ≡ Passed)
 unfolding offer-verdict Accepted
 offer-passed t u log e = otherwise-passed (verdict-of t log) (first (upload-conditions u)) e

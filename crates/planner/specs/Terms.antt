@@ -58,7 +58,7 @@ lesser a gone kept = pick (eqb (a .from) 65535) gone (pick (a .free) (min gone k
 unfoldable pub own-cost : Rates → Terms → ℕ
 own-cost p a = lesser a (shut-by p a) (a .span)
 
--- the cost with the request, after v for those before it: not kept where it cannot be kept; else what it costs by itself, and no more than d, its D
+-- the cost with the request, after v for those before it: a server's first request is not kept; any other costs what it costs by itself, and no more than d, its D
 unfoldable pub next-cost : Rates → ℕ → ℕ → ℕ → ℕ → ℕ
 next-cost p from own d v = pick (eqb from 65535) (first-price p + v) (min (own + v) d)
 

@@ -110,7 +110,7 @@ fn billed(prices: Prices, given: bool, upload: u32) -> Fees
     }
 }
 
-// What an accepted log says, unless its upload price is refused.
+// What an accepted log says, unless the upload price is refused.
 fn offered(fault: Verdict, summary: Summary) -> Loaded
     ensures { λ r. ⌜ r ≡ loaded fault summary ⌝ }
 {

@@ -203,7 +203,7 @@ fn own_costs(
     }
 }
 
-// The cost with one more request, after v for those before it: one that is not kept where it cannot be kept; else what it costs by itself, and no more than d, its D.
+// The cost with one more request, after v for those before it: a server's first is not kept; any other costs what it costs by itself, and no more than d, its D.
 fn next_cost(fees: Fees, from: u16, own: u64, d: u64, v: u64) -> u64
     requires { ⌜ (own < 2 ^ 60) × (v < 2 ^ 60) ⌝ }
     ensures { λ r. ⌜ r ≡ next-cost (rated fees) from own d v ⌝ }

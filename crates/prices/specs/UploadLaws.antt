@@ -15,13 +15,14 @@ use Rattle.base.specs.RefusalLaws.{first-passed, first-failed}
 use Rattle.prices.specs.Prices.{price-outside}
 use Rattle.prices.specs.Uploads.{upload-conditions, Taken}
 
--- one is
+-- a price that is not outside is in range
 in-range : (y : ℕ) → price-outside y ≡ false → (1 ≤ y) × (y ≤ 1000000)
 in-range y e =
     let (a, b) = either-false (eqb y 0) (ltb 1000000 y) e in
     let some : y ≡ 0 → ⊥ = eqb-false y 0 a in
     (omega arith, ltb-false 1000000 y b)
 
+-- it passes exactly if it is taken
 pub taken-iff : (u : Option ℕ) → (first (upload-conditions u) ≡ Passed) ↔ Taken u
 unfolding upload-conditions first
 taken-iff none = (λ e. tt, λ t. refl)

@@ -3,8 +3,6 @@ use mathlib.Core.Bool.{Bool, true, false}
 use mathlib.Core.List.{List, [], _∷_}
 use mathlib.Core.Option.{Option, none, some}
 use Prim.Native.Nat.{ℕ, _≤_}
-use lib.Dec.{ltb, eqb}
-use Rattle.base.specs.Choice.{either}
 use Rattle.base.specs.Refusals.{Condition, refuse}
 use Rattle.prices.specs.Prices.{price-outside}
 

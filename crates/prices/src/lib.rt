@@ -1,10 +1,8 @@
-// The prices of 01's 'Prices' and of 02's price files.
+// The prices of 01's 'Prices', of 02's price files and of its uploads.
 mod file;
 
 ghost use mathlib.Core.Path.{_≡_};
 ghost use Prim.Native.Nat.{_*_};
-ghost use lib.Dec.{ltb, eqb};
-ghost use Rattle.base.specs.Choice.{either};
 ghost use Rattle.base.specs.Refusals.{first};
 ghost use Rattle.prices.specs.Prices.{price-outside, outside, window};
 ghost use Rattle.prices.specs.Offer.{built-in-offer};

@@ -98,7 +98,7 @@ fn week_c_with_faults() -> Vec<(Vec<u8>, Fault)> {
     ]
 }
 
-/// A price file, an upload price and a log, each right or wrong, and the first refusal of these, if any. Each call is told of the one that comes after.
+/// A price file, an upload price and a log, each right or wrong, and the first refusal of these, if any. Each call is handed a fault of its own inputs too, which comes after these.
 struct Order<'a> {
     prices: PriceFile<'a>,
     upload: Upload,

@@ -1,3 +1,4 @@
+-- `checker::checking::check_by` meets its contract. Assumes nothing.
 use borrow.Author.Needs.{needs}
 use mathlib.Core.Path.{_≡_, sym, _∙_}
 use Rattle.base.specs.Refusals.{first}

@@ -1,3 +1,4 @@
+-- `checker::checking::check_uploads` meets its contract. Assumes nothing.
 use borrow.Author.Needs.{needs}
 use Rattle.prices.specs.FileLaws.{built-in-given, built-in-priced}
 use Rattle.prices.specs.Uploads.{if-given}

@@ -1,3 +1,4 @@
+-- `checker::checking::check_uploads_with` meets its contract. Assumes nothing.
 use borrow.Author.Needs.{needs}
 use Rattle.prices.specs.FileLaws.{judged-priced}
 use Rattle.prices.specs.Uploads.{if-given}

@@ -1,3 +1,4 @@
+-- `checker::checking::uploads` meets its contract. Assumes nothing.
 use mathlib.Core.Path.{_≡_, refl}
 use Rattle.model.specs.Schedule.{is-upload}
 use Rattle.checker.specs.ReadingLaws.{row-above, not-upload}

@@ -1,3 +1,4 @@
+-- `checker::conditions::kind_fits` meets its contract. Assumes nothing.
 use borrow.Author.Tests.{lt-ltb, le-ltb, eq-eqb, ne-eqb}
 use Rattle.model.specs.Checking.{kind-fits}
 use Rattle.checker.specs.Quick.{offering}

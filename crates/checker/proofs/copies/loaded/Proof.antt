@@ -1,3 +1,4 @@
+-- `checker::copies::loaded` meets its contract. Assumes nothing.
 use borrow.Author.Needs.{needs}
 use mathlib.Core.Path.{sym}
 use Rattle.model.specs.Checking.{row-count}

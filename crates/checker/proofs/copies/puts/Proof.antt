@@ -1,3 +1,4 @@
+-- `checker::copies::puts` meets its contract. Assumes nothing.
 use mathlib.Core.Bool.{false}
 use mathlib.Core.Path.{_≡_, refl}
 use borrow.Author.Tests.{eq-eqb, ne-eqb}

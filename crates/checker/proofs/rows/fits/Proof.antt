@@ -1,3 +1,4 @@
+-- `checker::rows::fits` meets its contract. Assumes nothing.
 use borrow.Author.Needs.{needs}
 use Rattle.checker.specs.ReadingLaws.{row-hold, row-transfer, row-upload}
 use Rattle.checker.proofs.rows.fits.Statement.{statement}

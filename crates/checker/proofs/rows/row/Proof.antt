@@ -1,3 +1,4 @@
+-- `checker::rows::row` meets its contract. Assumes nothing.
 use borrow.Author.Needs.{needs}
 use Rattle.model.specs.Checking.{row-count}
 use Rattle.checker.proofs.rows.row.Statement.{statement}

@@ -1,3 +1,4 @@
+-- `checker::rows::upload_earlier` meets its contract. Assumes nothing.
 use borrow.Author.Tests.{lt-ltb, le-ltb, eq-eqb, ne-eqb}
 use Rattle.model.specs.RowForm.{earlier}
 use Rattle.checker.proofs.rows.upload_earlier.Statement.{statement}

@@ -1,3 +1,4 @@
+-- `checker::rows::upload_fits` meets its contract. Assumes nothing.
 use borrow.Author.Tests.{lt-ltb, le-ltb}
 use Rattle.model.specs.RowForm.{fits}
 use Rattle.checker.proofs.rows.upload_fits.Statement.{statement}

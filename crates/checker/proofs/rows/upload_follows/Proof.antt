@@ -1,3 +1,4 @@
+-- `checker::rows::upload_follows` meets its contract. Assumes nothing.
 use borrow.Author.Needs.{needs}
 use mathlib.Core.Bool.{true}
 use mathlib.Core.Path.{_≡_, refl}

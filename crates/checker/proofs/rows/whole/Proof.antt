@@ -1,3 +1,4 @@
+-- `checker::rows::whole` meets its contract. Assumes nothing.
 use Rattle.model.specs.Checking.{row-count}
 use Rattle.checker.specs.Reading.{quad-at}
 use borrow.Author.Needs.{needs}

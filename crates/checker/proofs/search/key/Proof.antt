@@ -1,3 +1,4 @@
+-- `checker::search::key` meets its contract. Assumes nothing.
 use borrow.Author.Needs.{needs}
 use native.Mathlib.Omega.{arith}
 use Rattle.checker.specs.Search.{key, hold-key}

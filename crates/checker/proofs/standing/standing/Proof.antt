@@ -1,3 +1,4 @@
+-- `checker::standing::standing` meets its contract. Assumes nothing.
 use borrow.Author.Needs.{needs}
 use Rattle.checker.specs.QuickSteps.{standing-read}
 use Rattle.checker.specs.SearchLaws.{position-most}

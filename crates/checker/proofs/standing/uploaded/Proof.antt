@@ -1,3 +1,4 @@
+-- `checker::standing::uploaded` meets its contract. Assumes nothing.
 use borrow.Author.Needs.{needs}
 use Rattle.model.specs.Checking.{row-count}
 use Rattle.checker.specs.QuickSteps.{uploads-none, uploads-read}
