@@ -1,18 +1,15 @@
 -- The answer by the verdicts of the log, the upload price and the schedule, and the bounds of a cost that is answered.
 use mathlib.Core.List.{List, _++_}
-use mathlib.Core.Option.{Option, none, some}
+use mathlib.Core.Option.{Option, some}
 use mathlib.Core.Path.{_≡_, sym, ap, _∙_}
 use native.Mathlib.Nat.{mul-le-mul}
 use native.Mathlib.Omega.{arith}
 use Prim.Native.Nat.{ℕ, zero, suc, _^_, _≤_, _<_}
-use lib.Dec.{ltb, eqb}
-use borrow.Author.Tests.{ltb-false}
-use Rattle.base.specs.ChoiceLaws.{either-false}
 use Rattle.base.specs.declared.Refusal.{Refusal}
 use Rattle.base.specs.declared.Verdict.{Verdict}
 use Rattle.base.specs.declared.Verdict.the-variants.{Passed, Refused}
 use Rattle.base.specs.Refusals.{first, otherwise}
-use Rattle.base.specs.RefusalLaws.{first-append, first-passed, otherwise-assoc}
+use Rattle.base.specs.RefusalLaws.{first-append, otherwise-assoc}
 use Rattle.prices.specs.Tariff.{Tariff}
 use Rattle.prices.specs.PriceLaws.{Priced}
 use Rattle.prices.specs.Uploads.{upload-conditions}
@@ -20,7 +17,7 @@ use Rattle.log.specs.Fields.{server-count, request-count}
 use Rattle.log.specs.Conditions.{log-conditions, verdict-of, Accepted}
 use Rattle.log.specs.Ranges.{Sound}
 use Rattle.log.specs.AcceptedLaws.{accepted-sound}
-use Rattle.model.specs.Rates.{rates, some?, or-zero}
+use Rattle.model.specs.Rates.{rates, some?}
 use Rattle.model.specs.Sums.{total}
 use Rattle.model.specs.Requests.{requests}
 use Rattle.model.specs.LogRequests.{requests-in, prices-in, rates-in}
@@ -94,11 +91,3 @@ sums-fit t u log ns a e =
 pub prices-fit : (t : Tariff) → Priced t → (log : List ℕ) → verdict-of t log ≡ Passed → (prices-in t log .hold ≤ 1000000) × (prices-in t log .transfer ≤ 1000000)
 unfolding Accepted
 prices-fit t p log a = let r = log-priced t p log a in (r .hold-most, r .transfer-most)
-
--- an upload price that passed
-pub fee-fits : (u : Option ℕ) → first (upload-conditions u) ≡ Passed → or-zero u ≤ 1000000
-unfolding upload-conditions or-zero
-fee-fits none e = omega arith
-fee-fits (some y) e =
-    let (a, b) = either-false (eqb y 0) (ltb 1000000 y) (first-passed (upload-conditions (some y)) .0 e 0) in
-    ltb-false 1000000 y b

@@ -27,7 +27,7 @@ use Rattle.model.specs.Rates.{Rates, rates, plain, some?, or-zero, offers}
 use Rattle.model.specs.Sums.{total}
 use Rattle.model.specs.Requests.{Requests, Rising, Within}
 use Rattle.model.specs.Schedule.{Row, hold, move, transfer, upload, Feasible, length-of, is-transfer, is-upload, cost-of}
-use Rattle.model.specs.CountLaws.{total-zero}
+use Rattle.model.specs.RateLaws.{no-upload, no-uploads}
 use Rattle.model.specs.Marking.{Mark, K, S, U, legal, Valid, cost, source, rows}
 use Rattle.model.specs.MarkLaws.{loads-U}
 use Rattle.model.specs.RowMembers.{Made, as-hold, as-transfer, as-upload, rows-row, upload-in}
@@ -61,18 +61,6 @@ module _ (p : Prices) (q : Requests) (n : ℕ) where
   unfolding rates some?
   not-offered = refl
 
-  no-upload : (rows : List Row) → Feasible (plain p) q n rows → (x τ : ℕ) → List·Memᴰ (move (upload x τ)) rows → ⊥
-  no-upload rows F x τ m = not-both (F .offered x τ m) not-offered
-
-  none-paid : (rows : List Row) → Feasible (plain p) q n rows → total is-upload rows ≡ 0
-  unfolding is-upload
-  none-paid rows F = total-zero is-upload rows each
-    where
-      each : (r : Row) → List·Memᴰ r rows → is-upload r ≡ 0
-      each (hold x a b) m = refl
-      each (move (transfer y x τ)) m = refl
-      each (move (upload x τ)) m = absurd (no-upload rows F x τ m)
-
   no-U : (m : ℕ → Mark) → Valid (plain p) q m n → (i : ℕ) → 1 ≤ i → i ≤ n → m i ≢ U
   unfolding legal
   no-U m v i a b e = not-both (rw e at (v i a b)) not-offered
@@ -93,7 +81,7 @@ without-uploads p q n =
     let P = plan-planned (plain p) q n in
     let m = plan (plain p) q n in
     record {
-      no-upload = no-upload p q n;
+      no-upload = λ rows F. no-upload (plain p) q n rows F (not-offered p q n);
       costs = λ rows F. omega arith;
       no-U = no-U p q n;
       ties = λ m′ v e d a b x y. first-K (m d) (m′ d) (P .before m′ v e d a b x y) (no-U p q n m (P .lawful) d a b) (no-U p q n m′ v d a b);
@@ -134,20 +122,20 @@ uploaded p count q n = record { each = λ x τ r. go (rows-row q m n from count 
 -- AN UPLOAD PRICE MAKES NO PLAN DEARER
 pub no-dearer : (p : Prices) (y count : ℕ) (q : Requests) (n : ℕ) → Rising q n → Within count q n
     → plan-cost (rates p (some y)) q n ≤ plan-cost (plain p) q n
-unfolding cost-of rates or-zero
+unfolding cost-of rates or-zero is-upload
 no-dearer p y count q n rising within =
     let o = optimal (plain p) count q n rising within in
     let rows = plan-rows (plain p) q count n in
     omega (
       arith,
       o .costs,
-      ap (λ (x : ℕ). y * x) (none-paid p q n rows (o .feasible)),
+      ap (λ (x : ℕ). y * x) (no-uploads (plain p) q n rows (o .feasible) (not-offered p q n) is-upload (λ x a b. refl) (λ z x τ. refl)),
       optimal (rates p (some y)) count q n rising within .none-less rows (still (o .feasible)),
     )
   where
     still : {rows : List Row} → Feasible (plain p) q n rows → Feasible (rates p (some y)) q n rows
     still {rows} F =
-        record { begins = F .begins; leaves = F .leaves; serves = F .serves; offered = λ x τ m. absurd (no-upload p q n rows F x τ m) }
+        record { begins = F .begins; leaves = F .leaves; serves = F .serves; offered = λ x τ m. absurd (no-upload (plain p) q n rows F (not-offered p q n) x τ m) }
 
 -- so for every accepted log, after each of its requests
 pub least-no-dearer : (t : Tariff) (y : ℕ) → Taken (some y) → (log : List ℕ) (k : ℕ) → Accepted t log → k ≤ request-count log

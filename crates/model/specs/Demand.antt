@@ -12,10 +12,11 @@ use Rattle.model.specs.Rates.{Rates, some?, upload-fee}
 use Rattle.model.specs.Sums.{sum}
 use Rattle.model.specs.SumLaws.{sum-le, sum-add, sum-scale, sum-longer, sum-ones, sum-minus, inside, inside-low, sum-inside}
 use Rattle.model.specs.Requests.{Requests, previous, Rising}
-use Rattle.model.specs.RequestLaws.{none-some, previous-some, rises-le}
+use Rattle.model.specs.RequestLaws.{previous-some, rises-le}
 use Rattle.model.specs.Marking.{Mark, K, S, U, keeps, sends, loads, legal, begin, fee, sent, loaded}
 use Rattle.model.specs.Table.{open-gap, table, send-price, free-price, free}
 use Rattle.model.specs.TableLaws.{May, table-away, table-kept, open-gap-open, open-gap-shut}
+use Rattle.model.specs.LegalLaws.{begun}
 use Rattle.model.specs.MarkLaws.{sends-S}
 use Rattle.model.specs.Leaving.{free-S, free-U}
 
@@ -186,16 +187,6 @@ module _ (p : Rates) (q : Requests) (n : ℕ) (m : ℕ → Mark) (proper : Prope
           let f : previous q (suc i) ≡ none = rw (d, begin) at e in
           absurd (not-both (proper .kept i h d) (rw f))
 
-  -- a span begins at the previous request
-  begun : (i j : ℕ) → begin q m i ≡ some j → previous q i ≡ some j
-  unfolding begin keeps
-  begun i j e = go (m i) refl
-    where
-      go : (a : Mark) → m i ≡ a → previous q i ≡ some j
-      go K d = rw (d, begin) at e
-      go S d = absurd (none-some (rw (d, begin)) e)
-      go U d = absurd (none-some (rw (d, begin)) e)
-
   -- the transfer price for each S and the upload price for each U
   mark-fees : fees (begin q m) (λ l. fee p (m l)) n ≤ p .transfer * sent m n + upload-fee p * loaded m n
   unfolding fees sent loaded keeps sends loads fee unkept
@@ -227,7 +218,7 @@ module _ (p : Rates) (q : Requests) (n : ℕ) (m : ℕ → Mark) (proper : Prope
   -- the table where S is allowed everywhere lets it, with a copy over the gap before an S
   policy : Policy p q n (λ i. true) (free-price p q) (begin q m) (λ l. fee p (m l)) (λ l. sends (m l))
   unfolding May keeps sends fee send-price
-  policy = record { kept = λ i j b e. begun (suc i) j e; may = λ i b e. inl refl; pays = λ i c b e. pays i c b (m (suc i)) refl (not-begun i b e) }
+  policy = record { kept = λ i j b e. begun q m (suc i) j e; may = λ i b e. inl refl; pays = λ i c b e. pays i c b (m (suc i)) refl (not-begun i b e) }
     where
       pays : (i c : ℕ) → i < n → (a : Mark) → m (suc i) ≡ a → keeps (m (suc i)) ≡ false
           → free-price p q i c ≤ fee p (m (suc i)) + pick (sends (m (suc i))) (open-gap p q i c) 0

@@ -39,6 +39,7 @@ pub mod PartCost
 pub mod PlanLaws
 pub mod PlanLeast
 pub mod QuoteLaws
+pub mod RateLaws
 pub mod RecentLaws
 pub mod RequestLaws
 pub mod RowLaws

@@ -2,7 +2,7 @@
 -- A request that is not kept has a move of its own, and a gap without an upload is held over. So where an upload costs no more than a
 -- transfer, all requests that are not kept are U; else those with an upload in their gap are, and the others S.
 use mathlib.Core.Bool.{Bool, true, false}
-use mathlib.Core.List.{List, List·Memᴰ}
+use mathlib.Core.List.{List}
 use mathlib.Core.Logic.{_⊎_, inl, inr}
 use mathlib.Core.Option.{none, some}
 use mathlib.Core.Path.{_≡_, refl, sym, ap, _∙_}
@@ -34,7 +34,7 @@ use Rattle.model.specs.Requests.{Requests, previous, Rising}
 use Rattle.model.specs.RequestLaws.{rises-le}
 use Rattle.model.specs.Once.{awaits-own, since-some, Claim, idle, claims, claims-met}
 use Rattle.model.specs.Schedule.{Row, hold, move, Move, transfer, upload, Feasible, length-of, is-transfer, is-upload, cost-of}
-use Rattle.model.specs.CountLaws.{total-zero}
+use Rattle.model.specs.RateLaws.{no-uploads}
 use Rattle.model.specs.Plan.{rank}
 use Rattle.model.specs.Marking.{Mark, K, S, U, keeps, sends, loads, legal, begin, sent, loaded}
 use Rattle.model.specs.Table.{free, best}
@@ -265,15 +265,6 @@ module _ (p : Rates) (q : Requests) (n : ℕ) (rows : List Row) (r : Rising q n)
         go i (as-kept k l) = omega (arith, ap f k)
         go i (as-chosen k) = omega (arith, ap f k)
 
-  -- without an upload price there is no upload
-  no-uploads : offers p ≡ false → (f : Row → ℕ) → ((x a b : ℕ) → f (hold x a b) ≡ 0) → ((y x τ : ℕ) → f (move (transfer y x τ)) ≡ 0) → total f rows ≡ 0
-  no-uploads o f held sent = total-zero f rows each
-    where
-      each : (w : Row) → List·Memᴰ w rows → f w ≡ 0
-      each (hold x a b) m = held x a b
-      each (move (transfer y x τ)) m = sent y x τ
-      each (move (upload x τ)) m = absurd (not-both (F .offered x τ m) o)
-
   -- ---- uploads that cost no more than a transfer: U for all
 
   all-U : offers p ≡ true → Choice p q n rows (λ i. U)
@@ -329,7 +320,7 @@ module _ (p : Rates) (q : Requests) (n : ℕ) (rows : List Row) (r : Rising q n)
       offered : (i : ℕ) → fed (suc i) ≡ U → (offers p ≡ true) ⊎ (offers p ≡ false) → offers p ≡ true
       offered i e (inl o) = o
       offered i e (inr o) =
-          absurd (omega (arith, ap rank (rw (no-uploads o (feed q (suc i)) (λ x a b. refl) (λ y x τ. refl)) at e)))
+          absurd (omega (arith, ap rank (rw (no-uploads p q n rows F o (feed q (suc i)) (λ x a b. refl) (λ y x τ. refl)) at e)))
 
   -- there are no more U than uploads
   fed-few : loaded (mark fed fed-choice) n ≤ total is-upload rows
@@ -364,7 +355,7 @@ lower-bound-free p q n rows r F = go (true-or-false (offers p)) (le-or-lt (uploa
     go : (offers p ≡ true) ⊎ (offers p ≡ false) → (upload-fee p ≤ p .transfer) ⊎ (p .transfer < upload-fee p) → free p q n n ≤ cost-of p rows
     go (inl o) (inl h) = cheap p q n rows r F o h
     go (inl o) (inr h) = dear p q n rows r F (inl (omega arith))
-    go (inr o) h = dear p q n rows r F (inr (no-uploads p q n rows r F o is-upload (λ x a b. refl) (λ y x τ. refl)))
+    go (inr o) h = dear p q n rows r F (inr (no-uploads p q n rows F o is-upload (λ x a b. refl) (λ y x τ. refl)))
 
 -- nor less than the table of the legal markings
 pub lower-bound : (p : Rates) (q : Requests) (n : ℕ) (rows : List Row) → Rising q n → Feasible p q n rows → best p q n n ≤ cost-of p rows

@@ -12,9 +12,9 @@ use Rattle.model.specs.Rates.{Rates}
 use Rattle.model.specs.Sums.{sum}
 use Rattle.model.specs.SumLaws.{sum-same}
 use Rattle.model.specs.Requests.{Requests, previous}
-use Rattle.model.specs.RequestLaws.{previous-some, none-some}
+use Rattle.model.specs.RequestLaws.{previous-some}
 use Rattle.model.specs.Marking.{Mark, K, S, U, keeps, loads, begin, after, spans, any, covered, own, asked, cost, Valid}
-use Rattle.model.specs.LegalLaws.{kept-from}
+use Rattle.model.specs.LegalLaws.{kept-from, begun}
 use Rattle.model.specs.Table.{open-gap, table, best}
 use Rattle.model.specs.TableLaws.{span}
 use Rattle.model.specs.Leaving.{leave-price}
@@ -104,16 +104,6 @@ module _ (p : Rates) (q : Requests) where
       go k b (inr a) true z = rw (covered-span m i k j e a (omega arith), z)
       go k b (inr a) false z = rw (covered-span m i k j e a (omega arith), z, lt-leb k (min c j) (omega arith))
 
-  -- the span of a kept request begins before it
-  begin-below : (m : ℕ → Mark) (i j : ℕ) → begin q m i ≡ some j → j < i
-  unfolding begin keeps
-  begin-below m i j e = go (m i) refl
-    where
-      go : (a : Mark) → m i ≡ a → j < i
-      go K x = previous-some q i j (rw x at e) .below
-      go S x = absurd (none-some refl (rw x at e))
-      go U x = absurd (none-some refl (rw x at e))
-
   -- a step at a mark that is not K
   pub part-leave : (m : ℕ → Mark) (i c : ℕ) (a : Mark) → m (suc i) ≡ a → keeps a ≡ false → part m (suc i) c ≡ leave-price p q i c a + part m i (min c i)
   unfolding begin
@@ -143,7 +133,7 @@ module _ (p : Rates) (q : Requests) where
             ih (min c i),
           )
       go (some j) e ih =
-          let b : j < suc i = begin-below m′ (suc i) j e in
+          let b : j < suc i = previous-some q (suc i) j (begun q m′ (suc i) j e) .below in
           omega (arith, part-kept m i c j (same ∙ e) (omega arith), part-kept m′ i c j e (omega arith), ih (min c j))
 
   -- the table is at most the cost of any legal marking

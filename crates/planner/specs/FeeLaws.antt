@@ -1,19 +1,18 @@
--- An upload price that is not refused is from 1 to 1,000,000, so the code's fees stand for it.
+-- The code's fees, with 0 for no upload price, stand for the rates.
 use mathlib.Core.Bool.{Bool, true, false, not}
 use mathlib.Core.Logic.{_⊎_, inl, inr, _≢_}
 use mathlib.Core.Option.{Option, none, some}
 use mathlib.Core.Path.{_≡_, refl}
 use native.Mathlib.Omega.{arith}
-use Prim.Native.Nat.{ℕ, _≤_}
-use lib.Dec.{ltb, eqb}
-use borrow.Author.Tests.{ltb-false, ne-eqb}
+use Prim.Native.Nat.{ℕ}
+use lib.Dec.{eqb}
+use borrow.Author.Tests.{ne-eqb}
 use Rattle.base.specs.Choice.{pick, same-or-not}
-use Rattle.base.specs.ChoiceLaws.{either-false}
 use Rattle.base.specs.Refusals.{first}
-use Rattle.base.specs.RefusalLaws.{first-passed}
 use Rattle.base.specs.declared.Verdict.the-variants.{Passed}
 use Rattle.prices.specs.declared.Prices.{Prices}
 use Rattle.prices.specs.Uploads.{upload-conditions}
+use Rattle.prices.specs.UploadLaws.{taken-iff}
 use Rattle.model.specs.Rates.{rates, some?, or-zero}
 use Rattle.planner.specs.Fees.{price-given, fees-of, rated}
 
@@ -35,19 +34,8 @@ price-is y = go (same-or-not y 0)
     go (inl e) = rw e
     go (inr d) = rw (ne-eqb y 0 d)
 
--- what 44 tells of a price
-in-range : (y : ℕ) → first (upload-conditions (some y)) ≡ Passed → (eqb y 0 ≡ false) × (ltb 1000000 y ≡ false)
-unfolding upload-conditions
-in-range y e = either-false (eqb y 0) (ltb 1000000 y) (first-passed (upload-conditions (some y)) .0 e 0)
-
--- it is at most 1,000,000
-pub upload-most : (u : Option ℕ) → first (upload-conditions u) ≡ Passed → or-zero u ≤ 1000000
-unfolding or-zero
-upload-most none e = omega arith
-upload-most (some y) e = ltb-false 1000000 y (in-range y e .1)
-
--- and the fees stand for the rates
+-- the fees stand for the rates where 44 passed, as 0 is no price then
 pub fees-rated : (p : Prices) (u : Option ℕ) → first (upload-conditions u) ≡ Passed → rated (fees-of p u) ≡ rates p u
 unfolding fees-of rates price-given or-zero
 fees-rated p none e = refl
-fees-rated p (some y) e = rw (in-range y e .0)
+fees-rated p (some y) e = let t = taken-iff (some y) .0 e in rw (ne-eqb y 0 (λ z. omega (arith, t .0)))

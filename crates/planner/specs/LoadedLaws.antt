@@ -28,7 +28,7 @@ use Rattle.model.specs.Rates.{rates}
 use Rattle.model.specs.LogRequestLaws.{sound-seconds, log-rising, log-priced}
 use Rattle.planner.specs.Asked.{asks}
 use Rattle.planner.specs.Terms.{index}
-use Rattle.planner.specs.FeeLaws.{upload-most}
+use Rattle.model.specs.RateLaws.{fee-most}
 use Rattle.planner.specs.Fits.{Fits, Ready}
 use Rattle.planner.specs.Loading.{seconds-with-home, servers-with-home, links}
 
@@ -116,7 +116,7 @@ module _ (t : Tariff) (log : List ℕ) (ok : Accepted t log) where
       record {
         hold-most = p .hold-most;
         transfer-most = p .transfer-most;
-        upload-most = upload-most u offer;
+        upload-most = fee-most u offer;
         requests-most = sound .requests-most;
         times-most = sound-seconds log sound;
         rising = log-rising t log ok;

@@ -13,7 +13,8 @@ use Rattle.checker.specs.Answers.{checked}
 use Rattle.model.specs.Rates.{some?}
 use Rattle.checker.specs.Quick.{schedule-tests}
 use Rattle.checker.specs.GivenLaws.{given-some}
-use Rattle.checker.specs.AnswerLaws.{log-refused, price-refused, log-accepted, sums-fit, prices-fit, fee-fits}
+use Rattle.checker.specs.AnswerLaws.{log-refused, price-refused, log-accepted, sums-fit, prices-fit}
+use Rattle.model.specs.RateLaws.{fee-most}
 use Rattle.checker.proofs.checking.check_by.Statement.{statement}
 use Rattle.checker.proofs.checking.check_by.Tie as tie
 
@@ -82,7 +83,7 @@ cost-requires c κs =
     let u = if-given (a .given) (a .upload) in
     let passed = sym (c .before .before .before .before .before .before .before .before .before .before .verdict .ensures) ∙ c .before .before .before .before .before .before .before .before .enum-told .given .1 in
     let p = prices-fit t (c .before .before .before .before .before .before .before .before .before .before .before .before .before .before .pre) (a .log .now) passed in
-    let f = fee-fits u (sym (c .before .before .before .before .before .before .before .upload-fault .ensures) ∙ c .before .before .before .before .before .enum-told2 .given .1) in
+    let f = fee-most u (sym (c .before .before .before .before .before .before .before .upload-fault .ensures) ∙ c .before .before .before .before .before .enum-told2 .given .1) in
     let tests : first (schedule-tests (some? u) (a .log .now) (a .rows .now)) ≡ c .before .before .before .before .schedule-fault .result = rw (given-some (a .given) (a .upload)) (sym (c .before .before .before .before .schedule-fault .ensures)) in
     let s = sums-fit t u (a .log .now) (a .rows .now) passed (tests ∙ c .before .before .enum-told3 .given .1) in
     rw (c .of-class .ensures, c .before .at .ensures) (p .0, p .1, f, s .0, s .1, s .2)
