@@ -17,8 +17,8 @@
  * - each pointer has as many elements behind it as the length after it says; with length 0 it may be null;
  * - an output that is lent overlaps nothing else that the call is given: where it does, a wrong answer can come back as accepted;
  * - `closed` is 0 or 1: any other byte is not a bool;
- * - the stack has room: a plan takes 101 KB of it, least costs 50 KB, with a price file or an upload price or without; any other call takes less than 3 KB
- *   (measured on x86-64).
+ * - the stack has room: a plan takes 101 KB of it and least costs 50 KB, with a price file or an upload price or without, a week page 175 KB; any
+ *   other call takes less than 3 KB (measured on x86-64).
  *
  * A refused call gives the refusal's number and place, and values 0. What it was lent is left as it was; a read gives a header of zeros, a scan
  * and a close give the state back as it was handed in, a start gives a state of zeros. An accepted call gives number 0, place 0 and its values; what
@@ -156,6 +156,13 @@ struct caching_answer caching_least_uploads_with(const uint8_t *prices, size_t p
 struct caching_answer caching_quote(const uint8_t *log, size_t log_length);
 
 struct caching_answer caching_quote_with(const uint8_t *prices, size_t prices_length, const uint8_t *log, size_t log_length);
+
+/* text is the week page, in ASCII: how many seconds each server holds the file under the plan on each of seven days, with sums. A day has 86,400 seconds, the
+ * first from second 0. A line has the server in 2 columns, seven days of 8 and their sum of 9, and a newline, so 68 bytes; there is one for each server, then
+ * one of column sums: servers + 1 lines, at most 4,420 bytes. 36, after 13 and before 31: the last request is after second 604,800. There is no page with a
+ * price file or an upload price.
+ * value: the length of the page */
+struct caching_answer caching_page(const uint8_t *log, size_t log_length, uint8_t *text, size_t text_length);
 
 /* the state has the prices of the class and the file's id; 43 for class 7 */
 struct caching_cache_answer caching_start(struct caching_header header);

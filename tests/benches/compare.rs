@@ -19,12 +19,13 @@ use std::hint::black_box;
 
 const REQUESTS: [usize; 4] = [0, 64, 512, 2_048];
 const SERVERS: [u8; 3] = [1, 8, 64];
-const CALLS: [&str; 14] = [
+const CALLS: [&str; 15] = [
     "plan",
     "plan with uploads",
     "least",
     "least with uploads",
     "quote",
+    "page",
     "check",
     "check with uploads",
     "read",
@@ -263,6 +264,18 @@ fn measure(call: &str, case: &Case) -> Times {
         "quote" => {
             assert_eq!(Library::quote(None, file), Fast::quote(None, file));
             times(&mut || used(Library::quote(None, black_box(file))), &mut || used(Fast::quote(None, black_box(file))))
+        }
+        "page" => {
+            let length = 68 * (log.header.server_count as usize + 1);
+            let (mut text_a, mut text_b) = (output(length), output(length));
+            let paged = Library::page(file, &mut text_a);
+            assert_eq!(paged, Ok(length as u64));
+            assert_eq!(paged, Fast::page(file, &mut text_b));
+            assert_eq!(text_a, text_b);
+            times(
+                &mut || used(Library::page(black_box(file), &mut text_a)),
+                &mut || used(Fast::page(black_box(file), &mut text_b)),
+            )
         }
         "check" | "check with uploads" => {
             assert_eq!(Library::check(None, upload, file, rows), Fast::check(None, upload, file, rows));
@@ -509,7 +522,8 @@ fn main() {
     if !calls.is_empty() {
         show_summary(&calls);
         show_calls(&calls);
-        show_quotes(&calls);
+        show_beside(&calls, "The least cost beside the quote", "least", "quote");
+        show_beside(&calls, "The page beside the plan of the same log", "page", "plan");
     }
     if !starts.is_empty() {
         show_starts(&starts);
@@ -543,6 +557,7 @@ fn show_calls(lines: &[Line]) {
     println!("`scan` is a start and then a scan for each request, the state going in and coming back by value in both; `scan in place`");
     println!("has Rust change its state where it is; `close` closes the state after them all. Rust's `sum` takes four bytes at a time, its `sum by bytes` one.");
     println!("With uploads there is an upload price of 28, where a transfer is 25 and a second's holding 1; `check` has the rows of the plan.");
+    println!("`page` plans the log, as `plan` does, and then counts and prints; every log ends on the first day.");
     println!("Outputs are just as long as needed. Growth is against the line above. The last column is the ratio in each of {PROCESSES} processes.\n");
     println!("| call | servers | requests | library | growth | Rust | growth | library / Rust | range |");
     println!("|---|---:|---:|---:|---:|---:|---:|---:|---:|");
@@ -552,15 +567,15 @@ fn show_calls(lines: &[Line]) {
     }
 }
 
-/// The least cost beside the quote, where both were measured.
-fn show_quotes(lines: &[Line]) {
+/// One call beside another on the longest log, where both were measured.
+fn show_beside(lines: &[Line], title: &str, one: &str, other: &str) {
     let longest = |call: &str| lines.iter().find(|line| line.name == call && line.servers == 64 && line.size == 2_048);
-    let (Some(least), Some(quote)) = (longest("least"), longest("quote")) else { return };
-    println!("\n## The least cost beside the quote, 64 servers and 2,048 requests\n");
-    println!("| version | least | quote | least / quote |");
+    let (Some(a), Some(b)) = (longest(one), longest(other)) else { return };
+    println!("\n## {title}, 64 servers and 2,048 requests\n");
+    println!("| version | {one} | {other} | {one} / {other} |");
     println!("|---|---:|---:|---:|");
-    for (version, least, quote) in [("library", least.least.library, quote.least.library), ("Rust", least.least.rust, quote.least.rust)] {
-        println!("| {version} | {} | {} | {:.1} |", show(least), show(quote), least / quote);
+    for (version, a, b) in [("library", a.least.library, b.least.library), ("Rust", a.least.rust, b.least.rust)] {
+        println!("| {version} | {} | {} | {:.2} |", show(a), show(b), a / b);
     }
 }
 

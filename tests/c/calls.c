@@ -66,6 +66,25 @@ int main(void)
     say("quote", caching_quote(log, 64));
     say("quote nothing", caching_quote(NULL, 0));
 
+    uint8_t page[300];
+    memset(page, '.', 300);
+    say("page short", caching_page(log, 64, page, 271));
+    printf("as it was: %.3s %.3s\n", (const char *)page, (const char *)page + 268);
+    say("page", caching_page(log, 64, page, 272));
+    printf("%.274s\n", (const char *)page);
+    say("page with more", caching_page(log, 64, page, 300));
+    printf("zeros after it: %d\n", page[271] == '\n' && page[272] == 0 && page[299] == 0);
+    say("page nothing", caching_page(NULL, 0, NULL, 0));
+    uint8_t late[46];
+    uint32_t second = 604800;
+    caching_write(header, &second, 1, servers, 1, late, 46);
+    say("page of the last second", caching_page(late, 46, page, 300));
+    printf("%.272s", (const char *)page);
+    second++;
+    caching_write(header, &second, 1, servers, 1, late, 46);
+    say("page of one more", caching_page(late, 46, page, 300));
+    say("page of one more, short", caching_page(late, 46, NULL, 0));
+
     struct caching_cache_answer live = caching_start(header);
     say("start", live.answer);
     printf("id: %d\n", memcmp(&live.cache.id, &header.id, sizeof header.id) == 0);

@@ -6,10 +6,10 @@ use crate::log::{self, Header, Log};
 use crate::online::{self, Cache, Served};
 use crate::planner::{self, letter};
 use crate::prices::{check_upload, PriceFile, Prices, Table, Upload};
-use crate::{quote, refuse, Refusal};
+use crate::{quote, refuse, week, Refusal};
 
 /// An implementation of the public calls. Those that need prices take a price file or none, and judge it at each call; those about schedules take an
-/// upload price or none, and judge that after the log.
+/// upload price or none, and judge that after the log. The page takes neither.
 pub trait Calls {
     fn sum(file: &[u8]) -> u32;
 
@@ -30,6 +30,9 @@ pub trait Calls {
 
     /// The quote.
     fn quote(prices: PriceFile, file: &[u8]) -> Result<u64, Refusal>;
+
+    /// The length of the page, of a log of the built-in table.
+    fn page(file: &[u8], text: &mut [u8]) -> Result<u64, Refusal>;
 
     /// A state for what a log's header says, of zeros if refused.
     fn start(prices: PriceFile, header: &Header) -> (Cache, Result<(), Refusal>);
@@ -123,6 +126,13 @@ impl Calls for Simple {
     fn quote(prices: PriceFile, file: &[u8]) -> Result<u64, Refusal> {
         let (prices, log) = accepted(prices, file)?;
         Ok(quote::quote(prices, &log).total())
+    }
+
+    fn page(file: &[u8], text: &mut [u8]) -> Result<u64, Refusal> {
+        let page = week::page_of(file)?;
+        check_room(text.len(), page.len())?;
+        put(text, page.as_bytes());
+        Ok(page.len() as u64)
     }
 
     fn start(prices: PriceFile, header: &Header) -> (Cache, Result<(), Refusal>) {

@@ -17,6 +17,7 @@ pub mod quote;
 pub mod random;
 pub mod search;
 pub mod sheet;
+pub mod week;
 
 /// A refusal: 01's number and its place.
 #[derive(Clone, Copy, Debug, PartialEq, Eq, Hash)]

@@ -2,6 +2,7 @@
 
 use crate::log::{sum, Header, Log, Request, LAST_SECOND, MOST_REQUESTS};
 use crate::prices::{encode, Prices, Table, Upload, HIGHEST, MOST_CLASSES};
+use crate::week::{DAY, WEEK};
 
 /// The generator of Steele, Lea and Flood, "Fast splittable pseudorandom number generators" (SplitMix64).
 pub struct Random {
@@ -259,6 +260,41 @@ fn log_with(random: &mut Random, table: &Table, header: Header, most: usize) -> 
     };
     let requests = random_requests(random, table.of(header.class), &header, count);
     Log { header, requests }
+}
+
+/// Requests that fit a header of the built-in table and end within the week, at most as many as asked for: short gaps and those about a window, and a
+/// few that end about a midnight or after a day or two.
+pub fn requests_of_week(random: &mut Random, header: &Header, most: usize) -> Vec<Request> {
+    let few = random.between(1, header.server_count as u64);
+    let (mut second, mut server) = (0, header.home as u16);
+    let mut requests = Vec::new();
+    let (room, rare) = (WEEK / most.max(1) as u32, most.max(12) as u64);
+    for _ in 0..most {
+        let midnight = (second / DAY + 1) * DAY;
+        let next = match random.below(rare) {
+            0..=2 => (midnight - 1 + random.below(3) as u32).max(second + 1),
+            3 | 4 => second + random.between(1, 2 * DAY as u64) as u32,
+            _ => second + random_gap(random, Prices::of(header.class), room),
+        };
+        if next > WEEK {
+            break;
+        }
+        second = next;
+        server = random_server(random, header, server, few);
+        requests.push(Request { second, server });
+    }
+    match requests.last_mut() {
+        Some(last) if random.once_in(8) => last.second = WEEK,
+        _ => {}
+    }
+    requests
+}
+
+/// A log of a class of the built-in table that ends within the week, with at most `most` requests.
+pub fn random_week(random: &mut Random, class: u8, most: usize) -> Log {
+    let header = Header { class, ..random_header(random, &Table::built_in()) };
+    let count = if random.once_in(12) { most } else { random.between(0, most as u64) as usize };
+    Log { header, requests: requests_of_week(random, &header, count) }
 }
 
 /// A log in a file with something wrong in it, most often one thing and with the sum made to fit.

@@ -40,6 +40,24 @@ check uploads nothing: 18 1 0 0
 least uploads short: 31 5 0 0
 quote: 0 0 52 0
 quote nothing: 1 0 0 0
+page short: 31 272 0 0
+as it was: ... ...
+page: 0 0 272 0
+ 0      12       0       0       0       0       0       0       12
+ 1      10       0       0       0       0       0       0       10
+ 2       0       0       0       0       0       0       0        0
+        22       0       0       0       0       0       0       22
+..
+page with more: 0 0 272 0
+zeros after it: 1
+page nothing: 1 0 0 0
+page of the last second: 0 0 272 0
+ 0   86400   86400   86400   86400   86400   86400   86400   604800
+ 1       0       0       0       0       0       0       0        0
+ 2       0       0       0       0       0       0       0        0
+     86400   86400   86400   86400   86400   86400   86400   604800
+page of one more: 36 0 0 0
+page of one more, short: 36 0 0 0
 start: 0 0 0 0
 id: 1
 scan of another id: 39 0 0 0

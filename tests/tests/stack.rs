@@ -7,6 +7,7 @@ use library::Library;
 use reference::calls::Calls;
 use reference::log::{Header, Log, Request};
 use reference::prices::{encode, Upload, HIGHEST};
+use reference::refuse;
 use std::thread::Builder;
 
 /// A call on a stack of so many bytes, those of the thread itself included: where they do not suffice, the system ends the test.
@@ -14,11 +15,16 @@ fn on(bytes: usize, call: fn()) {
     Builder::new().stack_size(bytes).spawn(call).unwrap().join().unwrap();
 }
 
-/// The longest log, of the most servers. Its class is no longer sold without a price file, so what is written or started is of another.
-fn longest() -> Vec<u8> {
+/// The longest log, of the most servers, with a gap before each request.
+fn with_gap(gap: u32) -> Vec<u8> {
     let header = Header { class: 7, server_count: 64, home: 63, id: [7; 16] };
-    let requests = (1..=2_048).map(|i| Request { second: 1_953 * i, server: (29 * i % 64) as u16 }).collect();
+    let requests = (1..=2_048).map(|i| Request { second: gap * i, server: (29 * i % 64) as u16 }).collect();
     Log { header, requests }.bytes()
+}
+
+/// Over nearly all seconds. Its class is no longer sold without a price file, so what is written or started is of another.
+fn longest() -> Vec<u8> {
+    with_gap(1_953)
 }
 
 /// The longest price file.
@@ -68,6 +74,14 @@ fn quote() {
         for prices in [None, Some(&prices()[..])] {
             assert!(Library::quote(prices, &longest()).is_ok());
         }
+    });
+}
+
+#[test]
+fn page() {
+    on(184_000, || {
+        assert_eq!(Library::page(&with_gap(295), &mut vec![0; 4_420]), Ok(4_420));
+        assert_eq!(Library::page(&longest(), &mut vec![0; 4_420]), refuse(36, 0));
     });
 }
 

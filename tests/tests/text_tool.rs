@@ -53,6 +53,13 @@ fn the_sample() {
 }
 
 #[test]
+fn the_sample_of_three_days() {
+    let text = std::fs::read(root().join("samples/three-days.txt")).unwrap();
+    let log = std::fs::read(root().join("samples/three-days.log")).unwrap();
+    assert_eq!(written(LOGS, &["5", "4", "0", "three-days"], &text), log);
+}
+
+#[test]
 fn layouts_of_one_text() {
     let plain = made(b"5 1\n8 2\n");
     for text in [&b"5 1\r\n8 2\r\n"[..], b"5 1\n8 2", b"\n# two scans\n 5\t1 \n\n8 2\n", b"\xef\xbb\xbf5 1\n8 2\n", b"05 1\n8 002\n"] {

@@ -56,16 +56,16 @@ build-at (suc n) f i d h = go (le-or-lt n i) (build-at n f i d)
     go (inr l) r = List·getD-append (build n f) (f n ∷ []) d i (omega (arith, build-length n f)) ∙ r l
 
 -- a built list with one value set
-pub build-set : (n y v : ℕ) (f g : ℕ → ℕ) → g y ≡ v → ((k : ℕ) → k ≢ y → g k ≡ f k) → set (build n f) y v ≡ build n g
+pub build-set : {A : Type 0} (n y : ℕ) (v : A) (f g : ℕ → A) → g y ≡ v → ((k : ℕ) → k ≢ y → g k ≡ f k) → set (build n f) y v ≡ build n g
 build-set n y v f g e d =
-    ext-getD 0 (set (build n f) y v) (build n g) (length-set (build n f) y v ∙ build-length n f ∙ sym (build-length n g))
+    ext-getD v (set (build n f) y v) (build n g) (length-set (build n f) y v ∙ build-length n f ∙ sym (build-length n g))
     (λ k h.
     let l : k < n = omega (arith, length-set (build n f) y v, build-length n f) in
-    go k l (same-or-not k y) ∙ sym (build-at n g k 0 l))
+    go k l (same-or-not k y) ∙ sym (build-at n g k v l))
   where
-    go : (k : ℕ) → k < n → (k ≡ y) ⊎ (k ≢ y) → getD (set (build n f) y v) k 0 ≡ g k
-    go k l (inl z) = rw z (getD-set-same (build n f) y v 0 (omega (arith, build-length n f)) ∙ sym e)
-    go k l (inr z) = getD-set-other (build n f) y k v 0 z ∙ build-at n f k 0 l ∙ sym (d k z)
+    go : (k : ℕ) → k < n → (k ≡ y) ⊎ (k ≢ y) → getD (set (build n f) y v) k v ≡ g k
+    go k l (inl z) = rw z (getD-set-same (build n f) y v v (omega (arith, build-length n f)) ∙ sym e)
+    go k l (inr z) = getD-set-other (build n f) y k v v z ∙ build-at n f k v l ∙ sym (d k z)
 
 -- the first k of them are built from the same function
 pub build-take : {A : Type 0} (k n : ℕ) (f : ℕ → A) → k ≤ n → take k (build n f) ≡ build k f

@@ -1,6 +1,6 @@
 -- The answer by the verdicts of the log, the upload price and the schedule, and the bounds of a cost that is answered.
 use mathlib.Core.List.{List, _++_}
-use mathlib.Core.Option.{Option, some}
+use mathlib.Core.Option.{Option}
 use mathlib.Core.Path.{_≡_, sym, ap, _∙_}
 use native.Mathlib.Nat.{mul-le-mul}
 use native.Mathlib.Omega.{arith}
@@ -9,12 +9,13 @@ use Rattle.base.specs.declared.Refusal.{Refusal}
 use Rattle.base.specs.declared.Verdict.{Verdict}
 use Rattle.base.specs.declared.Verdict.the-variants.{Passed, Refused}
 use Rattle.base.specs.Refusals.{first, otherwise}
-use Rattle.base.specs.RefusalLaws.{first-append, otherwise-assoc}
+use Rattle.base.specs.RefusalLaws.{first-append}
 use Rattle.prices.specs.Tariff.{Tariff}
 use Rattle.prices.specs.PriceLaws.{Priced}
 use Rattle.prices.specs.Uploads.{upload-conditions}
 use Rattle.log.specs.Fields.{server-count, request-count}
-use Rattle.log.specs.Conditions.{log-conditions, verdict-of, Accepted}
+use Rattle.log.specs.Conditions.{verdict-of, Accepted}
+use Rattle.log.specs.ConditionLaws.{after-log}
 use Rattle.log.specs.Ranges.{Sound}
 use Rattle.log.specs.AcceptedLaws.{accepted-sound}
 use Rattle.model.specs.Rates.{rates, some?}
@@ -37,12 +38,10 @@ pub verdict-parts : (t : Tariff) (u : Option ℕ) (log ns : List ℕ)
     → check-verdict-of t u log ns
     ≡ otherwise (verdict-of t log)
     (otherwise (first (upload-conditions u)) (first (schedule-conditions (rates-in t u log) (server-count log) (requests-in log) (request-count log) ns)))
-unfolding check-verdict-of check-conditions verdict-of
+unfolding check-verdict-of check-conditions
 verdict-parts t u log ns =
-    let rest = schedule-conditions (rates-in t u log) (server-count log) (requests-in log) (request-count log) ns in
-    ap (otherwise (t .judged)) (first-append (log-conditions (t .table) log) (upload-conditions u ++ rest))
-    ∙ otherwise-assoc (t .judged) (first (log-conditions (t .table) log)) (first (upload-conditions u ++ rest))
-    ∙ ap (otherwise (otherwise (t .judged) (first (log-conditions (t .table) log)))) (first-append (upload-conditions u) rest)
+    let own = schedule-conditions (rates-in t u log) (server-count log) (requests-in log) (request-count log) ns in
+    after-log t log (upload-conditions u ++ own) ∙ ap (otherwise (verdict-of t log)) (first-append (upload-conditions u) own)
 
 -- a refused log
 pub log-refused : (t : Tariff) (u : Option ℕ) (log ns : List ℕ) (r : Refusal) → verdict-of t log ≡ Refused r → check-answer t u log ns ≡ answer.Refused r

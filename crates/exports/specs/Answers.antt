@@ -14,6 +14,8 @@ use Rattle.planner.specs.declared.LeastCosts.{LeastCosts}
 use Rattle.planner.specs.declared.LeastCosts.the-variants as least
 use Rattle.quote.specs.declared.Quoted.{Quoted}
 use Rattle.quote.specs.declared.Quoted.the-variants as quote
+use Rattle.text.specs.declared.Printed.{Printed}
+use Rattle.text.specs.declared.Printed.the-variants as print
 use Rattle.online.specs.declared.StartOutcome.{StartOutcome}
 use Rattle.online.specs.declared.StartOutcome.the-variants as start
 use Rattle.online.specs.declared.Started.{Started}
@@ -71,6 +73,11 @@ of-least (least.Refused r) = refused r
 abbrev pub of-quote : Quoted → Answer
 of-quote (quote.Cost cost) = accepted cost 0
 of-quote (quote.Refused r) = refused r
+
+-- the length of a page, or the refusal
+abbrev pub of-page : Printed → Answer
+of-page (print.Length n) = accepted n 0
+of-page (print.Refused r) = refused r
 
 -- nothing more, or the refusal
 abbrev pub of-start : StartOutcome → Answer

@@ -35,6 +35,7 @@ use Rattle.planner.specs.Answers.{marks-of, rows-of-plan, plan-verdict, least-c
 use Rattle.text.specs.Answers.{room-verdict}
 use Rattle.report.specs.Sheet.{sheet-of, sheet-verdict}
 use Rattle.text.specs.RefusalText.{refusal-text}
+use Rattle.week.specs.Pages.{page-of, after-week, page-verdict}
 use Rattle.online.specs.declared.Cache.{Cache}
 use Rattle.online.specs.Conditions.{scan-conditions, running-conditions, close-conditions}
 use Rattle.online.specs.Rules.{zeros}
@@ -206,6 +207,23 @@ sheet-left t log text =
 
     room : sheet-verdict t log (length text) ≡ Passed → (i : ℕ) → nth outputs i .holds ≡ false
     room e = first-passed outputs .0 (append-passed (log-conditions (t .table) log) outputs .0 (otherwise-passed (t .judged) _ e .1) .1)
+
+-- the week page of a log
+pub page-decided : (t : Tariff) (g : Given t) (log : List ℕ) (text : ℕ)
+    → Decided (conditions-of g ++ (log-conditions (t .table) log ++ (after-week log ∷ short (length (page-of t log)) text ∷ []))) (page-verdict t log text)
+unfolding page-verdict
+page-decided t g log text = decided-after t g _
+
+pub page-left : (t : Tariff) (log text : List ℕ) → Left (page-verdict t log (length text)) (page-of t log) text
+unfolding page-verdict
+page-left t log text =
+    left (page-verdict t log (length text)) (page-of t log) text (λ e. ltb-false (length text) (length (page-of t log)) (room e 1))
+  where
+    own : List Condition
+    own = after-week log ∷ short (length (page-of t log)) (length text) ∷ []
+
+    room : page-verdict t log (length text) ≡ Passed → (i : ℕ) → nth own i .holds ≡ false
+    room e = first-passed own .0 (append-passed (log-conditions (t .table) log) own .0 (otherwise-passed (t .judged) _ e .1) .1)
 
 -- the line of a refusal
 pub line-decided : (r : Refusal) (text : ℕ) → Decided (short (length (refusal-text r)) text ∷ []) (room-verdict (refusal-text r) text)

@@ -42,7 +42,7 @@ use Rattle.online.specs.Passed.{log-start-passed, start-passed}
 use Rattle.bounds.specs.Calls.{Call, scan, close, verdict, after}
 use Rattle.bounds.specs.Claim.{Claim}
 use Rattle.bounds.specs.ClaimLaws.{claim}
-use Rattle.report.specs.SheetLaws.{passed-after}
+use Rattle.log.specs.ConditionLaws.{after-accepted}
 use Rattle.guarantees.specs.CheckerAccepts.{schedule-accepted}
 use Rattle.guarantees.specs.Optimality.{Optimal, optimal}
 
@@ -107,7 +107,7 @@ module _ (t : Tariff) (u : Option ℕ) (taken : Taken u) (log : List ℕ) (k : �
   unfolding plan-verdict first
   answered marks rows l w =
       let room = short (request-count part) marks ∷ short (length (rows-of-plan t u part)) rows ∷ [] in
-      passed-after t part (upload-conditions u ++ room) part-accepted
+      after-accepted t part (upload-conditions u ++ room) part-accepted
       ∙ (first-append (upload-conditions u) room
       ∙ rw (taken-iff u .1 taken, part-count, le-ltb marks k l, le-ltb rows (length (rows-of-plan t u part)) w))
 

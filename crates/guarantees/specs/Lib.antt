@@ -14,5 +14,6 @@ pub mod OneFile
 pub mod Quotes
 pub mod Uploads
 pub mod SheetColumns
+pub mod WeekPage
 pub mod PriceFiles
 pub mod EndedClass

@@ -14,6 +14,7 @@ use Rattle.prices.specs.FileLaws.{built-in-file, loads-exactly}
 use Rattle.prices.specs.Tariff.{Tariff, built-in, price-file, Given}
 use Rattle.prices.specs.Offer.{file-offer}
 use Rattle.prices.specs.Uploads.{Taken}
+use Rattle.log.specs.Sizes.{log-limit}
 use Rattle.log.specs.declared.Setup.{Setup}
 use Rattle.log.specs.declared.Header.{Header}
 use Rattle.log.specs.Fields.{request-count}
@@ -32,7 +33,7 @@ use Rattle.bounds.specs.Calls.{Call, Taken-close}
 use Rattle.bounds.specs.Claim.{Claim}
 use Rattle.report.specs.Sheet.{sheet-verdict}
 use Rattle.report.specs.Output.{output, price-limit}
-use Rattle.report.specs.LongInput.{enough-prices}
+use Rattle.report.specs.OutputLaws.{enough, enough-prices}
 use Rattle.guarantees.specs.Demand3.{Planned-best, planned-best, Ready, online-within-three}
 use Rattle.guarantees.specs.Closes.{Closed-within, closes-within}
 
@@ -84,6 +85,10 @@ file-first file r e =
 -- the program reads no more of a price file than one byte past the longest: what it writes is the same
 pub first-bytes-enough : (file log : List ℕ) → output (price-file (take price-limit file)) log ≡ output (price-file file) log
 first-bytes-enough = enough-prices
+
+-- nor of an input
+pub input-enough : (t : Tariff) (s : List ℕ) → output t (take log-limit s) ≡ output t s
+input-enough = enough
 
 -- demand 3 by one tariff
 pub record Demand-3 (t : Tariff) (g : Given t) : Type 0 where

@@ -37,7 +37,7 @@ use Rattle.model.specs.LogRequests.{requests-in, prices-in}
 use Rattle.model.specs.LogRequestLaws.{log-rising, log-within}
 use Rattle.checker.specs.Answers.{check-conditions, check-verdict-of}
 use Rattle.planner.specs.Answers.{plan-verdict, least-costs, least-verdict}
-use Rattle.report.specs.SheetLaws.{passed-after}
+use Rattle.log.specs.ConditionLaws.{after-accepted}
 use Rattle.guarantees.specs.Optimality.{optimal}
 use Rattle.guarantees.specs.Demand3.{planned-best}
 
@@ -171,9 +171,9 @@ pub price-refused : (t : Tariff) (y : ℕ) (log : List ℕ) → Accepted t log �
 unfolding plan-verdict least-verdict check-verdict-of check-conditions upload-conditions first
 price-refused t y log a out =
     record {
-      plan = λ marks rows. passed-after t log _ a ∙ rw outside;
-      least = λ costs. passed-after t log _ a ∙ rw outside;
-      check = λ rows. passed-after t log _ a ∙ rw outside;
+      plan = λ marks rows. after-accepted t log _ a ∙ rw outside;
+      least = λ costs. after-accepted t log _ a ∙ rw outside;
+      check = λ rows. after-accepted t log _ a ∙ rw outside;
     }
   where
     outside : price-outside y ≡ true

@@ -36,12 +36,12 @@ use Rattle.online.specs.Answers.{start-verdict, log-start-verdict, started-by, 
 use Rattle.bounds.specs.Calls.{after as after-call, run}
 use Rattle.text.specs.Decimal.{digits, decimal}
 use Rattle.text.specs.Lines.{ascii, line-end, line}
-use Rattle.text.specs.RefusalText.{list-word, refusal-text}
+use Rattle.text.specs.RefusalText.{list-word, refusal-text, shown}
 use Rattle.report.specs.Text.{heading, entry-line, entry-lines, figure-line, sheet-text, entry-of}
 use Rattle.report.specs.Live.{scans, state-after, live-mark, live-cost, opened, live-marks, running-costs, closing-cost}
 use Rattle.report.specs.Replies.{close-cost}
 use Rattle.report.specs.Sheet.{columns-of, sheet-of}
-use Rattle.report.specs.Output.{output-by, output}
+use Rattle.report.specs.Output.{output}
 use Rattle.guarantees.specs.Week.{Given, Week, planned, uploading, checked, logged, tied, printed, as-numbers, answer-numbers, quote-numbers, requests-given, rates-given, live-letter, least-so-far, plan-letters, plan-numbers, costs-from, close-after, letters-from, start-of, log-of, right, all-right}
 
 -- K, S and U
@@ -123,7 +123,7 @@ upload-weeks =
 
 -- every line of the table holds
 pub weeks-right : all-right (weeks ++ (own-weeks ++ upload-weeks)) ≡ true
-unfolding weeks own-weeks upload-weeks all-right right same as-numbers answer-numbers quote-numbers quoted-by quote-answer least-own quote-of requests-in prices-in check-conditions check-verdict-of checked-by check-answer requests-given letter live-letter least-so-far plan-letters plan-numbers costs-from close-after letters-from close-cost start-of log-of build first each has put lowest distance none-nearer nearest classes prices-of outside window version class-of server-count home-of request-count requests-offset id-offset total-length written-sum length-for id-of header-of seconds-of servers-of sum-from sum-of setup-conditions offered-conditions header-conditions before request-conditions log-conditions verdict-of head request-bytes requests-bytes body encode sum total requests latest previous length-of is-transfer is-upload cost-of reach arrive through reached rounds standing stands numbers flat row-of row-at rows-upto rows-of fits earlier follows keeps sends loads some? or-zero rates rates-given upload-conditions legal gap begin after spans any covered holds fee own asked cost begins-run run-end hold-rows all-holds transfers uploads source rows-from rows put-mark markings first-least least-of plan plan-cost plan-rows row-count kind-fits misfits misplaced row-conditions backed copy-condition serve-condition schedule-conditions check-cost across set-of some-server window-of copy-at use-at fresh lasts kept uses stands-after next-use seconds accept running remaining closing any-of server-broken broken scan-conditions close-conditions start-verdict log-start-verdict started-by started started-for-log scan-verdict scanned-by scanned mark-outcome close-verdict closed-by closed-answer marks-of planned-rows least-costs after-call run digits decimal ascii line-end line list-word refusal-text heading entry-line entry-lines figure-line sheet-text entry-of scans state-after live-mark live-cost opened live-marks running-costs closing-cost columns-of sheet-of output-by output
+unfolding weeks own-weeks upload-weeks all-right right same as-numbers answer-numbers quote-numbers quoted-by quote-answer least-own quote-of requests-in prices-in check-conditions check-verdict-of checked-by check-answer requests-given letter live-letter least-so-far plan-letters plan-numbers costs-from close-after letters-from close-cost start-of log-of build first each has put lowest distance none-nearer nearest classes prices-of outside window version class-of server-count home-of request-count requests-offset id-offset total-length written-sum length-for id-of header-of seconds-of servers-of sum-from sum-of setup-conditions offered-conditions header-conditions before request-conditions log-conditions verdict-of head request-bytes requests-bytes body encode sum total requests latest previous length-of is-transfer is-upload cost-of reach arrive through reached rounds standing stands numbers flat row-of row-at rows-upto rows-of fits earlier follows keeps sends loads some? or-zero rates rates-given upload-conditions legal gap begin after spans any covered holds fee own asked cost begins-run run-end hold-rows all-holds transfers uploads source rows-from rows put-mark markings first-least least-of plan plan-cost plan-rows row-count kind-fits misfits misplaced row-conditions backed copy-condition serve-condition schedule-conditions check-cost across set-of some-server window-of copy-at use-at fresh lasts kept uses stands-after next-use seconds accept running remaining closing any-of server-broken broken scan-conditions close-conditions start-verdict log-start-verdict started-by started started-for-log scan-verdict scanned-by scanned mark-outcome close-verdict closed-by closed-answer marks-of planned-rows least-costs after-call run digits decimal ascii line-end line list-word refusal-text heading entry-line entry-lines figure-line sheet-text entry-of scans state-after live-mark live-cost opened live-marks running-costs closing-cost columns-of sheet-of shown output
 weeks-right = refl
 
 -- the two windows that 01's 'Prices' names: of class 4 and of class 6

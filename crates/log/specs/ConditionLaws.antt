@@ -1,6 +1,6 @@
--- The conditions on each request, and a log's verdict part by part, as the code comes by them.
+-- The conditions on each request, and a log's verdict part by part, as the code comes by them; conditions after a log's.
 use mathlib.Core.Bool.{false, not}
-use mathlib.Core.List.{List, [], _∷_}
+use mathlib.Core.List.{List, [], _∷_, _++_}
 use mathlib.Core.Path.{_≡_, refl, ap, sym, _∙_}
 use Prim.Native.Nat.{ℕ, suc, _+_, _*_, _<_}
 use lib.Dec.{eqb}
@@ -12,12 +12,12 @@ use Rattle.base.specs.declared.Verdict.the-variants.{Passed, Refused}
 use Rattle.base.specs.Bytes.{le16, le32}
 use Rattle.base.specs.Lists.{build-at}
 use Rattle.prices.specs.declared.Prices.{Prices}
-use Rattle.prices.specs.Tariff.{tariff}
+use Rattle.prices.specs.Tariff.{Tariff, tariff}
 use Rattle.prices.specs.Offer.{Offer}
 use Rattle.checksum.specs.Sum.{sum-of}
 use Rattle.log.specs.declared.Setup.{Setup}
 use Rattle.log.specs.Fields.{server-count, request-count, seconds-of, servers-of, written-sum}
-use Rattle.log.specs.Conditions.{setup-conditions, offered-conditions, form-conditions, header-conditions, before, request-check, request-conditions, log-conditions, verdict-of}
+use Rattle.log.specs.Conditions.{setup-conditions, offered-conditions, form-conditions, header-conditions, before, request-check, request-conditions, log-conditions, verdict-of, Accepted}
 
 -- a test that fails adds nothing
 or-else-false : (v : Verdict) (number place : ℕ) → or-else v (refuse number place false) ≡ v
@@ -74,3 +74,16 @@ verdict-parts judged table s =
     ∙ otherwise-assoc judged (otherwise (first form) (first sum)) requests
     ∙ ap (λ (v : Verdict). otherwise v requests)
     (otherwise-assoc judged (first form) (first sum) ∙ ap (λ (v : Verdict). otherwise v (first sum)) (sym (from-otherwise judged form)))
+
+-- conditions after a log's
+pub after-log : (t : Tariff) (s : List ℕ) (own : List Condition)
+    → otherwise (t .judged) (first (log-conditions (t .table) s ++ own)) ≡ otherwise (verdict-of t s) (first own)
+unfolding verdict-of
+after-log t s own =
+    ap (otherwise (t .judged)) (first-append (log-conditions (t .table) s) own) ∙ otherwise-assoc (t .judged) (first (log-conditions (t .table) s)) (first own)
+
+-- they decide after an accepted log
+pub after-accepted : (t : Tariff) (s : List ℕ) (own : List Condition) → Accepted t s
+    → otherwise (t .judged) (first (log-conditions (t .table) s ++ own)) ≡ first own
+unfolding Accepted
+after-accepted t s own a = after-log t s own ∙ ap (λ (v : Verdict). otherwise v (first own)) a

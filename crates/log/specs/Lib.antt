@@ -14,6 +14,7 @@ pub mod AcceptedLaws
 pub mod EncodeLaws
 pub mod RoundTrip
 pub mod Cutting
+pub mod LongInput
 pub mod AnswerLaws
 pub mod EndedLaws
 pub mod WriteLaws

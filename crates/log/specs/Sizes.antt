@@ -7,3 +7,7 @@ most-requests = 2048
 -- room for any log
 abbrev pub log-room : ℕ
 log-room = 40 + 6 * most-requests
+
+-- how many bytes of an input are read at most: one more than the longest log has
+unfoldable pub log-limit : ℕ
+log-limit = log-room + 1

@@ -62,4 +62,7 @@ pub enum Written {
 pub const MOST_REQUESTS: usize = 2048;
 
 // Room for any log.
-pub const LOG_ROOM: usize = 40 + 6 * MOST_REQUESTS;
+const LOG_ROOM: usize = 40 + 6 * MOST_REQUESTS;
+
+// How many bytes of an input are read at most: one more than the longest log has.
+pub const LOG_LIMIT: usize = LOG_ROOM + 1;

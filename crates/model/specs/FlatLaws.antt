@@ -1,10 +1,10 @@
 -- The numbers of rows, read back as rows, and rows as numbers again.
 use mathlib.Core.Bool.{true}
-use mathlib.Core.List.{List, [], _∷_, _++_, List·Memᴰ, List·Memᴰ·head, List·Memᴰ·tail}
+use mathlib.Core.List.{List, [], _∷_, _++_, append-nil, List·Memᴰ, List·Memᴰ·head, List·Memᴰ·tail}
 use mathlib.Core.Path.{_≡_, refl, sym, ap, _∙_}
 use native.Mathlib.Omega.{arith}
 use Prim.Native.Nat.{ℕ, zero, suc, _+_, _*_, _/_, _%_, _<_}
-use lib.Dec.{ltb, eqb}
+use lib.Dec.{eqb}
 use lib.ListN.{getD, length}
 use borrow.Author.Tests.{lt-ltb, eqb-true}
 use Rattle.base.specs.Choice.{both}
@@ -34,21 +34,11 @@ rows-shift a b c d ns zero = refl
 rows-shift a b c d ns (suc k) = rw (rows-shift a b c d ns k, row-shift a b c d ns k)
 
 -- the first four numbers are the first row
-pub rows-of-shift : (a b c d : ℕ) (ns : List ℕ) → rows-of (a ∷ b ∷ c ∷ d ∷ ns) ≡ row-of a b c d ∷ rows-of ns
+rows-of-shift : (a b c d : ℕ) (ns : List ℕ) → rows-of (a ∷ b ∷ c ∷ d ∷ ns) ≡ row-of a b c d ∷ rows-of ns
 unfolding rows-of
 rows-of-shift a b c d ns =
     let e : suc (suc (suc (suc (length ns)))) / 4 ≡ suc (length ns / 4) = omega arith in
     rw e (rows-shift a b c d ns (length ns / 4))
-
--- the rows of the numbers of rows are those rows
-pub rows-of-flat : (rows : List Row) → rows-of (flat rows) ≡ rows
-unfolding flat numbers rows-of rows-upto row-of
-rows-of-flat [] = refl
-rows-of-flat (hold x a b ∷ rows) = rows-of-shift 0 x a b (flat rows) ∙ ap (λ (rs : List Row). hold x a b ∷ rs) (rows-of-flat rows)
-rows-of-flat (move (transfer y x τ) ∷ rows) =
-    rows-of-shift 1 y x τ (flat rows) ∙ ap (λ (rs : List Row). move (transfer y x τ) ∷ rs) (rows-of-flat rows)
-rows-of-flat (move (upload x τ) ∷ rows) =
-    rows-of-shift 2 x τ 0 (flat rows) ∙ ap (λ (rs : List Row). move (upload x τ) ∷ rs) (rows-of-flat rows)
 
 -- there are four for each row
 pub flat-length : (rows : List Row) → length (flat rows) ≡ 4 * length rows
@@ -57,6 +47,22 @@ flat-length [] = refl
 flat-length (hold x a b ∷ rows) = omega (arith, flat-length rows)
 flat-length (move (transfer y x τ) ∷ rows) = omega (arith, flat-length rows)
 flat-length (move (upload x τ) ∷ rows) = omega (arith, flat-length rows)
+
+-- the rows of the numbers of rows, whatever comes after them, are those rows
+pub upto-flat : (rows : List Row) (zs : List ℕ) → rows-upto (flat rows ++ zs) (length rows) ≡ rows
+unfolding flat numbers rows-upto row-of
+upto-flat [] zs = refl
+upto-flat (hold x a b ∷ rows) zs = rows-shift 0 x a b (flat rows ++ zs) (length rows) ∙ ap (λ (rs : List Row). hold x a b ∷ rs) (upto-flat rows zs)
+upto-flat (move (transfer y x τ) ∷ rows) zs =
+    rows-shift 1 y x τ (flat rows ++ zs) (length rows) ∙ ap (λ (rs : List Row). move (transfer y x τ) ∷ rs) (upto-flat rows zs)
+upto-flat (move (upload x τ) ∷ rows) zs =
+    rows-shift 2 x τ 0 (flat rows ++ zs) (length rows) ∙ ap (λ (rs : List Row). move (upload x τ) ∷ rs) (upto-flat rows zs)
+
+pub rows-of-flat : (rows : List Row) → rows-of (flat rows) ≡ rows
+unfolding rows-of
+rows-of-flat rows =
+    let e : length (flat rows) / 4 ≡ length rows = omega (arith, flat-length rows) in
+    rw e (ap (λ (ns : List ℕ). rows-upto ns (length rows)) (sym (append-nil (flat rows))) ∙ upto-flat rows [])
 
 -- ---- kinds that fit
 

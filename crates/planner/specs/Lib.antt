@@ -20,6 +20,7 @@ pub mod LinkLaws
 pub mod LoadLaws
 pub mod LoadedLaws
 pub mod SummaryLaws
+pub mod RoomLaws
 pub mod LeastAnswer
 pub mod LeastAnswerLaws
 pub mod GapWordLaws

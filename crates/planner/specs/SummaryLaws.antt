@@ -15,6 +15,7 @@ use Rattle.prices.specs.PriceLaws.{Priced}
 use Rattle.prices.specs.Uploads.{upload-conditions}
 use Rattle.log.specs.Fields.{server-count, request-count}
 use Rattle.log.specs.Conditions.{log-conditions, verdict-of, Accepted}
+use Rattle.log.specs.ConditionLaws.{after-log}
 use Rattle.model.specs.Requests.{Within}
 use Rattle.model.specs.LogRequests.{requests-in, prices-in, rates-in}
 use Rattle.model.specs.Rates.{Rates}
@@ -32,13 +33,11 @@ use Rattle.planner.specs.LoadedLaws.{lent-requests, lent-ready}
 -- the conditions of a call with an upload price: those before its own, and its own
 pub offer-parts : (t : Tariff) (u : Option ℕ) (log : List ℕ) (own : List Condition)
     → otherwise (t .judged) (first (log-conditions (t .table) log ++ (upload-conditions u ++ own))) ≡ otherwise (offer-verdict t u log) (first own)
-unfolding offer-verdict verdict-of
+unfolding offer-verdict
 offer-parts t u log own =
-    let logs = first (log-conditions (t .table) log) in
-    let offered = first (upload-conditions u) in
-    ap (otherwise (t .judged)) (first-append (log-conditions (t .table) log) (upload-conditions u ++ own) ∙ ap (otherwise logs) (first-append (upload-conditions u) own))
-    ∙ otherwise-assoc (t .judged) logs (otherwise offered (first own))
-    ∙ otherwise-assoc (otherwise (t .judged) logs) offered (first own)
+    after-log t log (upload-conditions u ++ own)
+    ∙ ap (otherwise (verdict-of t log)) (first-append (upload-conditions u) own)
+    ∙ otherwise-assoc (verdict-of t log) (first (upload-conditions u)) (first own)
 
 -- a log that is loaded passed
 pub loaded-log : (v : Verdict) (s₀ : Summary) (x : Loaded) (s : Summary) → x ≡ loaded v s₀ → x ≡ loaded′.Log s → (v ≡ Passed) × (s ≡ s₀)

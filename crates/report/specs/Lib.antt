@@ -14,4 +14,3 @@ pub mod Alike
 pub mod SheetLaws
 pub mod SheetLength
 pub mod OutputLaws
-pub mod LongInput

@@ -1,34 +1,22 @@
--- The sheet of an accepted log: none of the calls that it is made of is refused, and zeros after their answers do not show.
-use mathlib.Core.List.{List, [], _∷_, _++_}
+-- The sheet of an accepted log: the online cache goes through its requests, and zeros after the answers of the calls that it is made of do not show.
+use mathlib.Core.List.{List, [], _∷_}
 use mathlib.Core.Option.{none}
 use mathlib.Core.Path.{_≡_, ap, _∙_}
-use Prim.Native.Nat.{ℕ, suc, _*_, _≤_}
-use native.Mathlib.Omega.{arith}
+use Prim.Native.Nat.{ℕ}
 use lib.ListN.{length}
-use borrow.Author.Tests.{le-ltb}
 use Rattle.base.specs.Lists.{build, build-same}
-use Rattle.base.specs.Refusals.{first, short, otherwise}
-use Rattle.base.specs.RefusalLaws.{first-append, otherwise-assoc}
+use Rattle.base.specs.Refusals.{short, otherwise}
 use Rattle.base.specs.declared.Refusal.{Refusal}
 use Rattle.base.specs.declared.Verdict.{Verdict}
-use Rattle.base.specs.declared.Verdict.the-variants.{Passed, Refused}
-use Rattle.log.specs.Sizes.{most-requests}
+use Rattle.base.specs.declared.Verdict.the-variants.{Refused}
 use Rattle.prices.specs.PriceLaws.{Priced}
 use Rattle.prices.specs.Tariff.{Tariff}
-use Rattle.prices.specs.Uploads.{upload-conditions}
-use Rattle.log.specs.Fields.{id-of, request-count, server-count, seconds-of, servers-of}
-use Rattle.log.specs.Conditions.{Accepted, log-conditions, verdict-of}
-use Rattle.log.specs.AcceptedLaws.{accepted-sound}
+use Rattle.log.specs.Fields.{id-of, request-count, seconds-of, servers-of}
+use Rattle.log.specs.Conditions.{Accepted, verdict-of}
+use Rattle.log.specs.ConditionLaws.{after-log}
 use Rattle.online.specs.declared.Cache.{Cache}
 use Rattle.online.specs.Answers.{closed-by, closed-answer}
-use Rattle.model.specs.FlatLaws.{flat-length}
-use Rattle.model.specs.LogRequests.{requests-in}
-use Rattle.model.specs.LogRequestLaws.{log-within}
-use Rattle.model.specs.Marking.{rows}
-use Rattle.model.specs.Plan.{plan-rows}
-use Rattle.model.specs.RowsCost.{rows-few}
-use Rattle.planner.specs.Sizes.{places, rows-room}
-use Rattle.planner.specs.Answers.{marks-of, planned-rows, rows-of-plan, plan-verdict, least-costs, least-verdict}
+use Rattle.planner.specs.Answers.{marks-of, planned-rows, least-costs}
 use Rattle.text.specs.Answers.{room-verdict}
 use Rattle.report.specs.Alike.{Alike, state-alike, mark-alike, cost-alike, sheet-alike}
 use Rattle.report.specs.Live.{state-after, live-mark, live-cost, live-marks, running-costs, closing-cost, opened}
@@ -37,49 +25,21 @@ use Rattle.report.specs.Replies.{close-cost}
 use Rattle.report.specs.Sheet.{columns-of, sheet-of, sheet-verdict}
 use Rattle.report.specs.Text.{columns, entry-of, sheet-text}
 
--- conditions after a log's
-parts : (t : Tariff) (log : List ℕ) (xs : _) → otherwise (t .judged) (first (log-conditions (t .table) log ++ xs)) ≡ otherwise (verdict-of t log) (first xs)
-unfolding verdict-of
-parts t log xs = ap (otherwise (t .judged)) (first-append (log-conditions (t .table) log) xs) ∙ otherwise-assoc (t .judged) (first (log-conditions (t .table) log)) (first xs)
-
--- they decide after an accepted log
-pub passed-after : (t : Tariff) (log : List ℕ) (xs : _) → Accepted t log → otherwise (t .judged) (first (log-conditions (t .table) log ++ xs)) ≡ first xs
-unfolding Accepted
-passed-after t log xs a = parts t log xs ∙ ap (λ (v : Verdict). otherwise v (first xs)) a
+-- the sheet's verdict: the log's, then whether it has room
+pub verdict-parts : (t : Tariff) (log : List ℕ) (room : ℕ) → sheet-verdict t log room ≡ otherwise (verdict-of t log) (room-verdict (sheet-of t log) room)
+unfolding sheet-verdict room-verdict
+verdict-parts t log room = after-log t log (short (length (sheet-of t log)) room ∷ [])
 
 -- a refused log is refused
 pub sheet-refused : (t : Tariff) (log : List ℕ) (room : ℕ) (r : Refusal) → verdict-of t log ≡ Refused r → sheet-verdict t log room ≡ Refused r
-unfolding sheet-verdict
-sheet-refused t log room r e =
-    let xs = short (length (sheet-of t log)) room ∷ [] in
-    parts t log xs ∙ ap (λ (v : Verdict). otherwise v (first xs)) e
+sheet-refused t log room r e = verdict-parts t log room ∙ ap (λ (v : Verdict). otherwise v (room-verdict (sheet-of t log) room)) e
 
 -- the sheet of an accepted log needs room
 pub sheet-accepted : (t : Tariff) (log : List ℕ) (room : ℕ) → Accepted t log → sheet-verdict t log room ≡ room-verdict (sheet-of t log) room
-unfolding sheet-verdict room-verdict
-sheet-accepted t log room a = passed-after t log (short (length (sheet-of t log)) room ∷ []) a
+unfolding Accepted
+sheet-accepted t log room a = verdict-parts t log room ∙ ap (λ (v : Verdict). otherwise v (room-verdict (sheet-of t log) room)) a
 
 module _ (t : Tariff) (priced : Priced t) (log : List ℕ) (a : Accepted t log) where
-  -- its least costs are found
-  pub least-passes : least-verdict t none log places ≡ Passed
-  unfolding least-verdict upload-conditions first
-  least-passes = passed-after t log _ a ∙ rw (le-ltb places (suc (request-count log)) (omega (arith, accepted-sound t log a .requests-most)))
-
-  -- its plan has at most two rows for each request
-  pub few-rows : length (planned-rows t none log) ≤ 2 * request-count log
-  unfolding planned-rows plan-rows rows
-  few-rows = rows-few (requests-in log) (server-count log) _ (request-count log) _ (log-within t log a)
-
-  -- and is found
-  pub plan-passes : plan-verdict t none log most-requests rows-room ≡ Passed
-  unfolding plan-verdict rows-of-plan upload-conditions first
-  plan-passes =
-      passed-after t log _ a
-      ∙ rw (
-        le-ltb most-requests (request-count log) (accepted-sound t log a .requests-most),
-        le-ltb rows-room (length (rows-of-plan t none log)) (omega (arith, flat-length (planned-rows t none log), few-rows, accepted-sound t log a .requests-most)),
-      )
-
   -- the online cache goes through its requests, read from lists that hold them
   pub runs-read : (seconds servers : List ℕ) → Alike seconds (seconds-of log) → Alike servers (servers-of log)
       → Runs (opened t log) (id-of log) seconds servers (request-count log)

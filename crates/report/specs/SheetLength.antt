@@ -19,6 +19,7 @@ use Rattle.model.specs.PlanLaws.{plan-best}
 use Rattle.planner.specs.Answers.{planned-rows, least-costs}
 use Rattle.planner.specs.Fits.{best-small}
 use Rattle.planner.specs.LoadedLaws.{log-fits}
+use Rattle.planner.specs.RoomLaws.{few-rows}
 use Rattle.online.specs.Widths.{running-fits}
 use Rattle.online.specs.ClosingLaws.{closing-fits}
 use Rattle.report.specs.declared.Entry.{Entry}
@@ -26,7 +27,6 @@ use Rattle.report.specs.Live.{live-cost, opened, running-costs, closing-
 use Rattle.report.specs.LiveLaws.{intact-after}
 use Rattle.report.specs.Sizes.{entry-room, sheet-room}
 use Rattle.report.specs.Sheet.{columns-of, sheet-of}
-use Rattle.report.specs.SheetLaws.{few-rows}
 use Rattle.report.specs.Text.{entry-of, entry-line, entry-lines}
 use Rattle.report.specs.TextLaws.{entry-length, lines-longer, sheet-length}
 
@@ -72,5 +72,5 @@ module _ (t : Tariff) (priced : Priced t) (log : List ℕ) (a : Accepted t log) 
   unfolding sheet-of
   sheet-fits =
       let few = accepted-sound t log a .requests-most in
-      sheet-length entry (request-count log) (length (planned-rows t none log)) (closing-cost t log) few (omega (arith, few-rows t priced log a, few)) closing-small
+      sheet-length entry (request-count log) (length (planned-rows t none log)) (closing-cost t log) few (omega (arith, few-rows t log a, few)) closing-small
       (lines-short (request-count log) (omega arith))

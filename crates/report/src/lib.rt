@@ -3,7 +3,6 @@ mod lines;
 mod live;
 mod sheets;
 
-use log::LOG_ROOM;
 use log::MOST_REQUESTS;
 use prices::PRICE_ROOM;
 pub use sheets::sheet;
@@ -21,10 +20,7 @@ pub struct Entry {
     pub cost: u64,
 }
 
-// How many bytes of an input are read at most: one more than the longest log has.
-pub const LIMIT: usize = LOG_ROOM + 1;
-
-// And of a price file: one more than the longest has.
+// How many bytes of a price file are read at most: one more than the longest has.
 pub const PRICE_LIMIT: usize = PRICE_ROOM + 1;
 
 // Room for any sheet: its first line, one of at most 109 bytes for each request, and its last two lines.

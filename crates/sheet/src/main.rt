@@ -6,28 +6,27 @@ ghost use lib.ListN.{length, take};
 ghost use Rattle.io.specs.Counts.{Counts};
 ghost use Rattle.prices.specs.PriceFile.{built-in-bytes};
 ghost use Rattle.prices.specs.Tariff.{price-file};
+ghost use Rattle.log.specs.Sizes.{log-limit};
 ghost use Rattle.report.specs.Sizes.{sheet-room};
-ghost use Rattle.report.specs.Output.{output, limit, price-limit};
-ghost use Rattle.text.specs.RefusalText.{refusal-text, refusal-room};
-use base::Refusal;
+ghost use Rattle.report.specs.Output.{output, price-limit};
 use base::bytes::copy;
 use base::widths::size_from_u64;
 use libc::STDIN_FILENO;
 use libc::STDOUT_FILENO;
+use log::LOG_LIMIT;
 use prices::BUILT_IN_LENGTH;
 use prices::built_in;
-use report::LIMIT;
 use report::PRICE_LIMIT;
 use report::SHEET_ROOM;
 use report::sheet_with;
 use text::Printed;
-use text::refusal_line;
+use text::put_refusal;
 
 // Room for the longest log and one byte more, so that a longer input is refused as it would be whole.
-fn input() -> [u8; LIMIT]
-    ensures { λ r. ⌜ limit ≡ length r ⌝ }
+fn input() -> [u8; LOG_LIMIT]
+    ensures { λ r. ⌜ log-limit ≡ length r ⌝ }
 {
-    [0u8; LIMIT]
+    [0u8; LOG_LIMIT]
 }
 
 // Room for the longest price file and one byte more, for the same reason.
@@ -93,18 +92,6 @@ fn price_file(words: usize, bytes: &mut [u8]) -> usize
     read_named(bytes)
 }
 
-// The line of a refusal, and its length. It always fits.
-fn refuse(refusal: Refusal, text: &mut [u8]) -> usize
-    requires { ⌜ refusal-room ≤ length (now text) ⌝ }
-    ensures { λ r. ⌜ (r ≤ length (now (text .exit))) × (take r (now (text .exit)) ≡ refusal-text refusal) ⌝ }
-{
-    let printed = refusal_line(refusal, text);
-    match printed {
-        Printed::Length(n) => size_from_u64(n),
-        Printed::Refused(_) => 0,
-    }
-}
-
 // All that is written for a price file and an input, the sheet or the line of a refusal, and its length.
 fn answer(prices: &[u8], log: &[u8], text: &mut [u8]) -> usize
     requires { ⌜ sheet-room ≤ length (now text) ⌝ }
@@ -113,7 +100,7 @@ fn answer(prices: &[u8], log: &[u8], text: &mut [u8]) -> usize
     let printed = sheet_with(prices, log, text);
     match printed {
         Printed::Length(n) => size_from_u64(n),
-        Printed::Refused(r) => refuse(r, text),
+        Printed::Refused(r) => put_refusal(text, r),
     }
 }
 

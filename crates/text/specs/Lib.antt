@@ -7,6 +7,7 @@ pub mod Page
 pub mod Answers
 -- What is proved of them.
 pub mod DecimalLaws
+pub mod AlignedLaws
 pub mod PageLaws
 pub mod RefusalTextLaws
 pub mod AnswerLaws

@@ -1,9 +1,9 @@
 -- Bytes written one after the other: the parts of a text come together, and a text that fits is there whole.
 use mathlib.Core.List.{List, [], _∷_, _++_, append-assoc}
 use mathlib.Core.Path.{_≡_, refl, sym, ap, ap₂, _∙_}
-use Prim.Native.Nat.{ℕ, suc, _+_, _≤_, _<_}
+use Prim.Native.Nat.{ℕ, zero, suc, _+_, _≤_, _<_}
 use native.Mathlib.Omega.{arith}
-use lib.ListN.{length, getD, take, drop, length-append}
+use lib.ListN.{length, getD, take, drop, replicate, length-append}
 use lib.Seq.{take-suc, set-at}
 use borrow.Author.Tests.{lt-ltb}
 use Rattle.text.specs.Page.{Page, page, add-byte, added}
@@ -31,3 +31,9 @@ added-fits (x ∷ xs) a (y ∷ o) n e h =
     let long : length (a ++ (x ∷ [])) ≡ suc n = simp length-append (omega arith) in
     rw (lt-ltb _ _ room, set-at a y o x n e, ← append-assoc a (x ∷ []) o)
     (added-fits xs (a ++ (x ∷ [])) o (suc n) long (omega arith) ∙ ap₂ page (omega arith) (append-assoc a (x ∷ []) (xs ++ drop (length xs) o)))
+
+-- one more of the same byte
+pub added-again : (b n : ℕ) (p : Page) → added (replicate (suc n) b) p ≡ add-byte b (added (replicate n b) p)
+unfolding added
+added-again b zero p = refl
+added-again b (suc n) p = added-again b n (add-byte b p)

@@ -1,10 +1,12 @@
--- The line of a refusal (01's 'The sheet'). Assumes nothing.
+-- The line of a refusal, and what a program prints (01's 'The sheet'). Assumes nothing.
 use mathlib.Core.Bool.{Bool}
 use mathlib.Core.List.{List, [], _∷_}
 use Prim.Native.Nat.{ℕ}
 use lib.Dec.{leb}
 use Rattle.base.specs.Choice.{pick, both}
 use Rattle.base.specs.declared.Refusal.{Refusal}
+use Rattle.base.specs.declared.Verdict.{Verdict}
+use Rattle.base.specs.declared.Verdict.the-variants.{Passed, Refused}
 use Rattle.text.specs.Decimal.{decimal}
 use Rattle.text.specs.Lines.{ascii, line}
 
@@ -20,6 +22,11 @@ list-word number = pick (within 31 35 number) (ascii "state") (ascii "input")
 unfoldable pub refusal-text : Refusal → List ℕ
 refusal-text r =
     line (ascii "refused" ∷ list-word (r .number) ∷ decimal (r .number) ∷ ascii "place" ∷ decimal (r .place) ∷ [])
+
+-- what a program prints by a verdict: a text, or the one line of the refusal
+unfoldable pub shown : Verdict → List ℕ → List ℕ
+shown Passed text = text
+shown (Refused r) text = refusal-text r
 
 -- room for any such line
 abbrev pub refusal-room : ℕ

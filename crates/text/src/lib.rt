@@ -4,6 +4,7 @@ pub mod put;
 mod refusal;
 
 use base::Refusal;
+pub use refusal::put_refusal;
 pub use refusal::refusal_line;
 
 // The length of what was printed, or why nothing was.

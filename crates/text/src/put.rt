@@ -1,10 +1,11 @@
 // Bytes put over a text one after the other. Each call gives the place after what it put; past the end nothing is changed.
 ghost use mathlib.Core.List.{[], _∷_, _++_};
 ghost use mathlib.Core.Path.{_≡_};
-ghost use Prim.Native.Nat.{_+_, _<_};
+ghost use Prim.Native.Nat.{_+_, _-_, _<_};
+ghost use lib.ListN.{replicate};
 ghost use Rattle.text.specs.Decimal.{decimal};
 ghost use Rattle.text.specs.Page.{page, add-byte, added};
-ghost use Rattle.text.specs.Lines.{ascii};
+ghost use Rattle.text.specs.Lines.{ascii, aligned};
 
 // One byte.
 pub fn put_byte(text: &mut [u8], at: usize, b: u8) -> usize
@@ -63,4 +64,40 @@ pub fn put_letter(text: &mut [u8], at: usize, b: u8) -> usize
 {
     let to = put_byte(text, at, b' ');
     put_byte(text, to, b)
+}
+
+// So many spaces.
+fn put_spaces(text: &mut [u8], at: usize, count: usize) -> usize
+    ensures { λ r. ⌜ page r (now (text .exit)) ≡ added (replicate count 32) (page at (now (text .entry))) ⌝ }
+{
+    let mut to = at;
+    let mut k: usize = 0;
+    while k < count {
+        to = put_byte(text, to, b' ');
+        k += 1;
+    }
+    to
+}
+
+// The columns before the last one.
+fn before_last(width: usize) -> usize
+    ensures { λ r. ⌜ r ≡ width - 1 ⌝ }
+{
+    if width == 0 {
+        return 0;
+    }
+    width - 1
+}
+
+// A number right-aligned in so many columns, with spaces before it.
+pub fn put_aligned(text: &mut [u8], at: usize, width: usize, number: u64) -> usize
+    ensures { λ r. ⌜ page r (now (text .exit)) ≡ added (aligned width number) (page at (now (text .entry))) ⌝ }
+{
+    let rest = before_last(width);
+    if number < 10 {
+        let to = put_spaces(text, at, rest);
+        return put_byte(text, to, digit(number));
+    }
+    let to = put_aligned(text, at, rest, number / 10);
+    put_byte(text, to, digit(number % 10))
 }

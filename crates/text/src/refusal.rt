@@ -1,7 +1,7 @@
 // The line of a refusal.
 ghost use mathlib.Core.Path.{_≡_};
 ghost use Prim.Native.Nat.{_≤_};
-ghost use lib.ListN.{length, take};
+ghost use lib.ListN.{length};
 ghost use Rattle.text.specs.Answers.{room-verdict, printed, text-left};
 ghost use Rattle.text.specs.Page.{page, added};
 ghost use Rattle.text.specs.RefusalText.{list-word, refusal-text, refusal-room};
@@ -25,10 +25,10 @@ fn put_list(text: &mut [u8], at: usize, number: u8) -> usize
     }
 }
 
-// The line, at the front of a text that has room for any.
-fn put_refusal(refusal: Refusal, text: &mut [u8]) -> usize
-    requires { ⌜ refusal-room ≤ length (now text) ⌝ }
-    ensures { λ r. ⌜ (r ≤ length (now (text .exit))) × (take r (now (text .exit)) ≡ refusal-text refusal) ⌝ }
+// The line, at the front of a text.
+pub fn put_refusal(text: &mut [u8], refusal: Refusal) -> usize
+    ensures { λ r. ⌜ page r (now (text .exit)) ≡ added (refusal-text refusal) (page 0 (now (text .entry))) ⌝ }
+    ensures { λ _. ⌜ length (refusal-text refusal) ≤ refusal-room ⌝ }
 {
     let a = put(text, 0, b"refused ");
     let b = put_list(text, a, refusal.number);
@@ -44,6 +44,6 @@ pub fn refusal_line(refusal: Refusal, text: &mut [u8]) -> Printed
     ensures { λ _. ⌜ now (text .exit) ≡ text-left (refusal-text refusal) (now (text .entry)) ⌝ }
 {
     let mut line = [0u8; REFUSAL_ROOM];
-    let n = put_refusal(refusal, &mut line);
+    let n = put_refusal(&mut line, refusal);
     give(&line[..n], text)
 }

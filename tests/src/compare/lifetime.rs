@@ -5,6 +5,7 @@ use super::log::round_trip;
 use super::online::served;
 use super::planner::answers;
 use super::quote::quote;
+use super::week::page;
 use super::Met;
 use crate::calls::{Calls, Simple};
 use crate::log::{self, requests_of, Header, Log};
@@ -97,21 +98,33 @@ fn each_cut<C: Calls>(table: &Table, log: &Log, writes: &mut Met, calls: &mut Me
     }
 }
 
-/// Logs of class 7 without a price file, the sample first: everything but a write takes them, and the cache that serves them has their old prices.
+/// The page of each cut of a log.
+fn pages<C: Calls>(random: &mut Random, log: &Log, met: &mut Met) {
+    for count in 0..=log.requests.len() {
+        met.count(&page::<C>(random, &log.cut(count).bytes(), 4_420));
+    }
+}
+
+/// Logs of class 7 without a price file, the sample first: everything but a write takes them, a page those within the week, and the cache that serves
+/// them has their old prices.
 pub fn old_logs<C: Calls>(seed: u64, times: usize) {
     let mut random = Random::new(seed);
-    let (mut writes, mut calls) = (Met::default(), Met::default());
+    let (mut writes, mut calls, mut paged) = (Met::default(), Met::default(), Met::default());
     let table = Table::built_in();
     let sample = log::read(table.classes(), SAMPLE).unwrap();
     let marks: Vec<u8> = served::<C>(&table, &sample, &mut calls).into_iter().map(letter).collect();
     assert_eq!((&answers::<C>(None, None, &sample).1[..], &marks[..]), (&b"SSKSKSKSKKSK"[..], &b"SSKSKSKSKKSS"[..]));
     assert_eq!(quote::<C>(None, SAMPLE), Ok(13_990_001));
     each_cut::<C>(&table, &sample, &mut writes, &mut calls);
+    pages::<C>(&mut random, &sample, &mut paged);
     for _ in 0..times {
-        each_cut::<C>(&table, &random_log_of(&mut random, &table, UNSOLD, 12), &mut writes, &mut calls);
+        let log = random_log_of(&mut random, &table, UNSOLD, 12);
+        each_cut::<C>(&table, &log, &mut writes, &mut calls);
+        pages::<C>(&mut random, &log, &mut paged);
     }
     writes.exactly(&[43], 4 * times as u64);
     calls.exactly(&[0], 4 * times as u64);
+    paged.exactly(&[0, 36], times as u64);
 }
 
 /// Tables of price files that have a class 7: the built-in one, and others of 8 to 256 classes.

@@ -72,7 +72,7 @@ fn small() -> Log {
     Log { header, requests }
 }
 
-fn with_its_sum(mut file: Vec<u8>) -> Vec<u8> {
+pub(super) fn with_its_sum(mut file: Vec<u8>) -> Vec<u8> {
     let sum = log::sum(&file);
     file[20..24].copy_from_slice(&sum.to_le_bytes());
     file
@@ -121,6 +121,7 @@ pub fn wrong_sums<C: Calls>() {
                 assert_eq!(C::check(None, upload, &file, &[]), refuse(10, 0));
             }
             assert_eq!(C::quote(None, &file), refuse(10, 0));
+            assert_eq!(C::page(&file, &mut [0; 4_420]), refuse(10, 0));
         }
     }
     met.exactly(&[10], 1_000);

@@ -12,6 +12,7 @@ pub mod planner;
 pub mod prices;
 pub mod quote;
 pub mod uploads;
+pub mod week;
 pub mod weeks;
 
 use crate::random::Random;
@@ -175,6 +176,24 @@ mod tests {
         quote::windows::<Fast>();
         quote::products::<Fast>();
         quote::largest::<Fast>();
+    }
+
+    #[test]
+    fn fast_week() {
+        week::samples::<Fast>();
+        week::literal::<Fast>();
+        week::empty::<Fast>();
+        week::midnights::<Fast>();
+        week::order::<Fast>();
+        week::last_seconds::<Fast>();
+        week::rooms::<Fast>();
+        week::random_logs::<Fast>(47, 20_000);
+        week::every_damage::<Fast>();
+        week::every_class::<Fast>(48, 200);
+        week::by_seconds::<Fast>(49, 20);
+        week::every_small_log::<Fast>(3);
+        week::long_logs::<Fast>(50, 1);
+        week::largest::<Fast>();
     }
 
     #[test]

@@ -7,6 +7,7 @@ pub mod online;
 pub mod planner;
 mod prices;
 pub mod quote;
+pub mod week;
 
 use crate::calls::Calls;
 use crate::log::Header;
@@ -44,6 +45,10 @@ impl Calls for Fast {
 
     fn quote(prices: PriceFile, file: &[u8]) -> Result<u64, Refusal> {
         quote::quote(prices, file)
+    }
+
+    fn page(file: &[u8], text: &mut [u8]) -> Result<u64, Refusal> {
+        week::page(file, text)
     }
 
     fn start(prices: PriceFile, header: &Header) -> (Cache, Result<(), Refusal>) {

@@ -181,6 +181,7 @@ extern "C" {
     ) -> Answer;
     fn caching_quote(log: *const u8, log_length: usize) -> Answer;
     fn caching_quote_with(prices: *const u8, prices_length: usize, log: *const u8, log_length: usize) -> Answer;
+    fn caching_page(log: *const u8, log_length: usize, text: *mut u8, text_length: usize) -> Answer;
     fn caching_start(header: FileHeader) -> CacheAnswer;
     fn caching_start_with(prices: *const u8, prices_length: usize, header: FileHeader) -> CacheAnswer;
     fn caching_scan(cache: Cache, id: Id, second: u32, server: u16) -> ScanAnswer;
@@ -295,6 +296,10 @@ impl Calls for Library {
             Some(file) => unsafe { caching_quote_with(file.as_ptr(), file.len(), log, length) },
         };
         answer.value()
+    }
+
+    fn page(file: &[u8], text: &mut [u8]) -> Result<u64, Refusal> {
+        unsafe { caching_page(file.as_ptr(), file.len(), text.as_mut_ptr(), text.len()) }.value()
     }
 
     fn start(prices: PriceFile, header: &Header) -> (Cache, Result<(), Refusal>) {

@@ -1,6 +1,8 @@
 -- `sheet::answer` meets its contract. Assumes nothing.
 use borrow.Author.Needs.{needs}
 use lib.Seq.{length-take-le}
+use native.Mathlib.Omega.{arith}
+use Rattle.text.specs.AnswerLaws.{front-of}
 use Rattle.prices.specs.PriceLaws.{file-priced}
 use Rattle.report.specs.OutputLaws.{sheet-stands, sheet-refuses}
 use mathlib.Core.Path.{sym, _∙_}
@@ -19,8 +21,8 @@ size-from-u64-requires c κs = search needs
 enum-known-printed-2 : tie.Need-enum-known-printed-2
 enum-known-printed-2 c = search needs
 
-refuse-requires : tie.Need-refuse-requires
-refuse-requires c κs = search needs
+put-refusal-requires : tie.Need-put-refusal-requires
+put-refusal-requires c κs = search needs
 
 same-length : tie.Need-same-length
 same-length c = search needs
@@ -39,7 +41,8 @@ returns-2 : tie.Need-returns-2
 returns-2 c =
     let s = c .before .before .before .before .before .before .before .before .before .before .before .before .before .before in
     let e = c .before .before .before .before .before .before .before .before .before .sheet-with .ensures in
-    let f = c .before .before .refuse .ensures in
+    let p = c .before .before .put-refusal .ensures in
+    let f = front-of _ _ _ _ (p .0) (omega (arith, p .1)) in
     ((f .0, sym (length-take-le _ _ (f .0))), f .1 ∙ sheet-refuses _ (file-priced (s .args .prices .now)) (s .args .log .now) (s .args .text .now) (s .pre) _ (sym (e .0) ∙ c .before .before .before .before .before .printed2 .given .1))
 
 pub answer-spec : {M : Type 1} → statement M
@@ -50,7 +53,7 @@ answer-spec =
     enum-known-printed
     size-from-u64-requires
     enum-known-printed-2
-    refuse-requires
+    put-refusal-requires
     same-length
     returns
     same-length-2

@@ -2,14 +2,14 @@
 use mathlib.Core.Path.{sym}
 use Prim.Native.Nat.{ℕ}
 use lib.ListN.{length-replicate}
-use Rattle.report.specs.Output.{limit}
+use Rattle.log.specs.Sizes.{log-limit}
 use Rattle.sheet.proofs.input.Statement.{statement}
 use Rattle.sheet.proofs.input.Tie as tie
 
 returns : tie.Need-returns
-unfolding limit
+unfolding log-limit
 returns c =
-    sym (length-replicate {A = ℕ} limit 0)
+    sym (length-replicate {A = ℕ} log-limit 0)
 
 pub input-spec : {M : Type 1} → statement M
 input-spec = tie.close (tie.spec returns)

@@ -1,12 +1,13 @@
 -- `report::sheets::plan_marks` meets its contract. Assumes nothing.
 use borrow.Author.Needs.{needs}
-use Rattle.report.specs.SheetLaws.{plan-passes}
+use Rattle.planner.specs.RoomLaws.{plan-roomy, most-roomy}
 use Rattle.report.specs.Replies.{rows-planned}
 use Rattle.planner.specs.Sizes.{rows-room}
 use Rattle.planner.specs.Answers.{plan-verdict, planned}
 use Rattle.base.specs.declared.Verdict.the-variants.{Passed}
-use Rattle.prices.specs.PriceLaws.{file-priced}
 use Rattle.prices.specs.Tariff.{price-file}
+use Rattle.log.specs.Sizes.{most-requests}
+use Rattle.log.specs.Conditions.{Accepted}
 use mathlib.Core.Option.{none}
 use mathlib.Core.Path.{_≡_, refl, _∙_}
 use lib.ListN.{length}
@@ -26,12 +27,12 @@ same-length : tie.Need-same-length
 same-length c = search needs
 
 returns : tie.Need-returns
-unfolding planned rows-planned
+unfolding planned rows-planned Accepted
 returns c =
     let s = c .before .before .before .before .before .before .before .before .before .before in
     let a = s .args in
     let t = price-file (a .prices .now) in
-    let v : plan-verdict t none (a .log .now) (length (a .marks .now)) rows-room ≡ Passed = rw (s .pre .1) (plan-passes t (file-priced (a .prices .now)) (a .log .now) (s .pre .0)) in
+    let v : plan-verdict t none (a .log .now) (length (a .marks .now)) rows-room ≡ Passed = rw (s .pre .1) (plan-roomy t (a .log .now) most-requests rows-room (most-roomy t (a .log .now)) ∙ s .pre .0) in
     let p = c .before .before .before .before .plan-with .ensures in
     (c .row-count .ensures ∙ rw (p .0, v) refl, rw (← v) (p .1 .0))
 

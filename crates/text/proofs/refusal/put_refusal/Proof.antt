@@ -1,8 +1,6 @@
 -- `text::refusal::put_refusal` meets its contract. Assumes nothing.
 use borrow.Author.Needs.{needs}
-use Rattle.text.specs.AnswerLaws.{front-of}
 use Rattle.text.specs.RefusalTextLaws.{refusal-length}
-use native.Mathlib.Omega.{arith}
 use Rattle.text.specs.RefusalTextLaws.{refusal-parts}
 use Rattle.text.specs.Lines.{ascii}
 use Rattle.text.specs.RefusalText.{refusal-text}
@@ -57,7 +55,7 @@ returns c =
       c .before .before .before .before .before .before .before .before .before .before .before .before .before .before .before .before .before .before .before .before .put-list .ensures,
       c .before .before .before .before .before .before .before .before .before .before .before .before .before .before .before .before .before .before .before .before .before .before .before .before .put .ensures,
     ) (refusal-parts r (page 0 o)) in
-    front-of (refusal-text r) o _ _ e (omega (arith, refusal-length r (search needs) (search needs)))
+    (e, refusal-length r (search needs) (search needs))
 
 pub put-refusal-spec : {M : Type 1} → statement M
 put-refusal-spec =

@@ -2,6 +2,7 @@
 use borrow.Author.Needs.{needs}
 use mathlib.Core.Path.{sym}
 use lib.Seq.{length-take-le}
+use Rattle.text.specs.AnswerLaws.{front-of}
 use Rattle.text.proofs.refusal.refusal_line.Statement.{statement}
 use Rattle.text.proofs.refusal.refusal_line.Tie as tie
 
@@ -12,10 +13,10 @@ put-refusal-requires : tie.Need-put-refusal-requires
 put-refusal-requires c κs = search needs
 
 array-share-prefix-line : tie.Need-array-share-prefix-line
-array-share-prefix-line c = c .before .put-refusal .ensures .0
+array-share-prefix-line c = let p = c .before .put-refusal .ensures in front-of _ _ _ _ (p .0) (p .1) .0
 
 slice-aggregate-give : tie.Need-slice-aggregate-give
-slice-aggregate-give c = sym (length-take-le _ _ (c .before .before .put-refusal .ensures .0))
+slice-aggregate-give c = let p = c .before .before .put-refusal .ensures in sym (length-take-le _ _ (front-of _ _ _ _ (p .0) (p .1) .0))
 
 give-requires : tie.Need-give-requires
 give-requires c κs = search needs
@@ -24,7 +25,9 @@ same-length : tie.Need-same-length
 same-length c = search needs
 
 returns : tie.Need-returns
-returns c = rw (← c .before .before .before .before .before .before .put-refusal .ensures .1) (c .before .before .give .ensures)
+returns c =
+    let p = c .before .before .before .before .before .before .put-refusal .ensures in
+    rw (← front-of _ _ _ _ (p .0) (p .1) .1) (c .before .before .give .ensures)
 
 pub refusal-line-spec : {M : Type 1} → statement M
 refusal-line-spec =

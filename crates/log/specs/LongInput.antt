@@ -1,8 +1,8 @@
--- An input, and a price file, of which no more bytes are read than the limit is answered as the whole would be.
+-- An input longer than any log is refused as its first bytes are, one more than the longest log has.
 use mathlib.Core.Bool.{not}
 use mathlib.Core.List.{List, [], _∷_, _++_}
 use mathlib.Core.Logic.{_⊎_, inl, inr}
-use mathlib.Core.Path.{_≡_, refl, ap, _∙_}
+use mathlib.Core.Path.{_≡_, refl, sym, ap, _∙_}
 use Prim.Native.Nat.{ℕ, _+_, _≤_, _<_}
 use native.Mathlib.Omega.{arith}
 use lib.Dec.{ltb, eqb}
@@ -18,15 +18,12 @@ use Rattle.base.specs.declared.Refusal.{Refusal}
 use Rattle.base.specs.declared.Verdict.{Verdict}
 use Rattle.base.specs.declared.Verdict.the-variants.{Passed, Refused}
 use Rattle.prices.specs.declared.Prices.{Prices}
-use Rattle.prices.specs.PriceFile.{price-room}
-use Rattle.prices.specs.FileLaws as files
-use Rattle.prices.specs.Tariff.{Tariff, price-file}
+use Rattle.prices.specs.Tariff.{Tariff}
 use Rattle.checksum.specs.Sum.{sum-of}
-use Rattle.log.specs.Sizes.{most-requests, log-room}
+use Rattle.log.specs.Sizes.{most-requests, log-room, log-limit}
 use Rattle.log.specs.Fields.{version, class-of, server-count, home-of, setup-of, request-count, requests-offset, id-offset, total-length, written-sum, length-for}
 use Rattle.log.specs.Conditions.{setup-conditions, header-conditions, log-conditions, verdict-of}
 use Rattle.log.specs.ConditionLaws.{log-requests}
-use Rattle.report.specs.Output.{output-by, output, limit, price-limit}
 
 -- the conditions 1 to 8
 abbrev early : List Prices → List ℕ → List Condition
@@ -105,38 +102,22 @@ refused-or-nine Passed = refl
 refused-or-nine (Refused r) = refl
 
 -- a longer input is refused, and so are its first bytes, alike
-long-refused : (t : Tariff) (s : List ℕ) → limit ≤ length s → (r : Refusal) × (verdict-of t (take limit s) ≡ Refused r) × (verdict-of t s ≡ Refused r)
-unfolding limit
+long-refused : (t : Tariff) (s : List ℕ) → log-limit ≤ length s → (r : Refusal) × (verdict-of t (take log-limit s) ≡ Refused r) × (verdict-of t s ≡ Refused r)
+unfolding log-limit
 long-refused t s h =
-    let long = length-take-le limit s h in
-    let same = early-same (t .table) s (take limit s) (λ k l. getD-take limit s k 0 (omega arith)) (omega arith) (omega arith) in
+    let long = length-take-le log-limit s h in
+    let same = early-same (t .table) s (take log-limit s) (λ k l. getD-take log-limit s k 0 (omega arith)) (omega arith) (omega arith) in
     let nine : Verdict = Refused (record { number = 9; place = 0 }) in
     let r = otherwise-assoc (t .judged) (first (early (t .table) s)) nine ∙ refused-or-nine (otherwise (t .judged) (first (early (t .table) s))) in
-    let e : otherwise (t .judged) (by-form (t .table) (take limit s)) ≡ otherwise (t .judged) (by-form (t .table) s) =
+    let e : otherwise (t .judged) (by-form (t .table) (take log-limit s)) ≡ otherwise (t .judged) (by-form (t .table) s) =
     ap (λ (cs : List Condition). otherwise (t .judged) (otherwise (first cs) nine)) same in
-    (or-nine (otherwise (t .judged) (first (early (t .table) s))), long-verdict t (take limit s) (omega arith) ∙ e ∙ r, long-verdict t s (omega arith) ∙ r)
+    (or-nine (otherwise (t .judged) (first (early (t .table) s))), long-verdict t (take log-limit s) (omega arith) ∙ e ∙ r, long-verdict t s (omega arith) ∙ r)
 
--- so the first bytes of an input are enough
-pub enough : (t : Tariff) (s : List ℕ) → output t (take limit s) ≡ output t s
-unfolding output output-by
-enough t s = go (le-or-lt (length s) limit)
+-- so where a refused input is answered by its refusal alone, an input is answered as its first bytes are
+pub enough : {A : Type 0} (t : Tariff) (answer : List ℕ → A) (line : Refusal → A)
+    → ((s : List ℕ) (r : Refusal) → verdict-of t s ≡ Refused r → answer s ≡ line r) → (s : List ℕ) → answer (take log-limit s) ≡ answer s
+enough t answer line refused s = go (le-or-lt (length s) log-limit)
   where
-    go : (length s ≤ limit) ⊎ (limit < length s) → output t (take limit s) ≡ output t s
-    go (inl h) = ap (output t) (take-all limit s h)
-    go (inr h) = let (r, p, q) = long-refused t s (omega arith) in rw (p, q)
-
--- a longer price file is refused by 37, whatever the log
-long-prices : (prices log : List ℕ) → price-room < length prices → verdict-of (price-file prices) log ≡ Refused (record { number = 37; place = 0 })
-unfolding verdict-of
-long-prices prices log h = rw (files.long-refused prices h)
-
--- so the first bytes of a price file are enough
-pub enough-prices : (prices log : List ℕ) → output (price-file (take price-limit prices)) log ≡ output (price-file prices) log
-unfolding output output-by price-limit
-enough-prices prices log = go (le-or-lt (length prices) price-limit)
-  where
-    go : (length prices ≤ price-limit) ⊎ (price-limit < length prices) → output (price-file (take price-limit prices)) log ≡ output (price-file prices) log
-    go (inl h) = ap (λ (f : List ℕ). output (price-file f) log) (take-all price-limit prices h)
-    go (inr h) =
-        let long = length-take-le price-limit prices (omega arith) in
-        rw (long-prices (take price-limit prices) log (omega arith), long-prices prices log (omega arith))
+    go : (length s ≤ log-limit) ⊎ (log-limit < length s) → answer (take log-limit s) ≡ answer s
+    go (inl h) = ap answer (take-all log-limit s h)
+    go (inr h) = let (r, p, q) = long-refused t s (omega arith) in refused (take log-limit s) r p ∙ sym (refused s r q)
