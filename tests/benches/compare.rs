@@ -15,7 +15,12 @@ use reference::online::{Cache, Served};
 use reference::prices::{encode, Prices, Upload, HIGHEST};
 use reference::random::{random_requests, Random};
 use reference::Refusal;
+use std::fs::File;
 use std::hint::black_box;
+use std::io::Read;
+use std::os::fd::FromRawFd;
+use std::path::{Path, PathBuf};
+use std::process::{Command, Stdio};
 
 const REQUESTS: [usize; 4] = [0, 64, 512, 2_048];
 const SERVERS: [u8; 3] = [1, 8, 64];
@@ -41,6 +46,9 @@ const UPLOAD: Upload = Some(28);
 const START: &str = "start with a file";
 const CLASSES: [usize; 3] = [1, 8, 256];
 const ROWS: [u32; 3] = [4_096, 100_000, 1_000_000];
+const SEASON: &str = "season";
+const LOGS: usize = 4_096;
+const SEASONS: usize = 5;
 const PROCESSES: usize = 6;
 const ROUNDS: usize = 2;
 const BATCHES: usize = 4;
@@ -467,6 +475,113 @@ fn start_with(classes: usize) -> Line {
     Line::new(START, 0, classes as u32, least)
 }
 
+#[repr(C)]
+#[derive(Default)]
+struct Timeval {
+    seconds: i64,
+    microseconds: i64,
+}
+
+impl Timeval {
+    fn seconds(&self) -> f64 {
+        self.seconds as f64 + self.microseconds as f64 * 1e-6
+    }
+}
+
+#[repr(C)]
+#[derive(Default)]
+struct Usage {
+    user: Timeval,
+    system: Timeval,
+    others: [i64; 14],
+}
+
+extern "C" {
+    fn wait4(process: i32, status: *mut i32, options: i32, usage: *mut Usage) -> i32;
+}
+
+/// What a process prints for a file as its standard input, and its processor time in seconds, its own and the system's for it.
+fn process(command: &mut Command, input: &Path) -> (String, f64) {
+    let mut child = command.stdin(File::open(input).unwrap()).stdout(Stdio::piped()).spawn().unwrap();
+    let mut text = String::new();
+    child.stdout.take().unwrap().read_to_string(&mut text).unwrap();
+    let (mut status, mut usage) = (0, Usage::default());
+    let number = child.id() as i32;
+    assert_eq!(unsafe { wait4(number, &mut status, 0, &mut usage) }, number);
+    assert_eq!(status, 0);
+    (text, usage.user.seconds() + usage.system.seconds())
+}
+
+/// The two Rust versions of the season: words that have this program be one of them, and its name.
+const RUST_SEASONS: [(&str, &str); 2] = [("--season", "Rust"), ("--season-by-calls", "Rust, by the steps of its calls")];
+
+/// This program as a season's, if a word asks for it: the report of its standard input.
+fn is_season() -> bool {
+    let word = |wanted: &str| std::env::args().any(|word| word == wanted);
+    let input = || unsafe { File::from_raw_fd(0) };
+    let report = match RUST_SEASONS.map(|(name, _)| word(name)) {
+        [true, _] => fast::season::report(input()),
+        [_, true] => fast::season::report_by_calls(input()),
+        _ => return false,
+    };
+    print!("{report}");
+    true
+}
+
+/// The longest logs over 64 servers, two of each class, again and again.
+fn season() -> Vec<u8> {
+    let mut random = Random::new(12);
+    let mut log = |i: u8| {
+        let header = Header { class: i % 8, server_count: 64, home: 4 * i, id: [i; 16] };
+        Log { header, requests: random_requests(&mut random, Prices::of(header.class), &header, 2_048) }.bytes()
+    };
+    let logs: Vec<u8> = (0..16).flat_map(&mut log).collect();
+    logs.repeat(LOGS / 16)
+}
+
+/// The program beside both Rust versions, each a process that reads the same file, taking turns.
+fn show_season() {
+    println!("\n## A season of 4,096 logs, 64 servers and 2,048 requests each\n");
+    let program = PathBuf::from(env!("CARGO_MANIFEST_DIR")).join("../target/bin/season_report");
+    if !program.exists() {
+        println!("Not measured: `season_report` is not built; `rt check season_report` makes it.");
+        return;
+    }
+    let season = season();
+    let file = PathBuf::from(env!("CARGO_TARGET_TMPDIR")).join("season.log");
+    std::fs::write(&file, &season).unwrap();
+    let report = fast::season::report(&season[..]);
+    assert_eq!((report.accepted as usize, report.refused.len()), (LOGS, 0));
+    let own = std::env::current_exe().unwrap();
+    // seconds of each run: the program's, then those of the Rust versions
+    let mut runs = vec![];
+    for _ in 0..SEASONS {
+        let times = |command: &mut Command| {
+            let (text, seconds) = process(command, &file);
+            assert_eq!(text, report.to_string());
+            seconds
+        };
+        let library = times(&mut Command::new(&program));
+        runs.push((library, RUST_SEASONS.map(|(word, _)| times(Command::new(&own).arg(word)))));
+    }
+    std::fs::remove_file(file).unwrap();
+    println!("`season_report` and Rust, each a process with the same {} bytes from a file as its standard input and the room of one log in memory;", season.len());
+    println!("two logs of each class, again and again. `Rust` has steps made for the season: costs in 32 bits, all servers alike, and a cache that judges no call;");
+    println!("the other has those of its `least` and of its `scan in place`. A time is processor time of the process, with the system's for it, the least of");
+    println!("{SEASONS}, in turn. The last column is the ratio in each turn.\n");
+    println!("| version | time | logs a second | season_report / Rust | range |");
+    println!("|---|---:|---:|---:|---:|");
+    let least = |times: &dyn Fn(&(f64, [f64; 2])) -> f64| runs.iter().map(times).fold(f64::MAX, f64::min);
+    let library = least(&|run| run.0);
+    println!("| season_report | {} | {:.0} | | |", show(library), LOGS as f64 / library);
+    for (i, (_, name)) in RUST_SEASONS.iter().enumerate() {
+        let rust = least(&|run| run.1[i]);
+        let ratios = runs.iter().map(|run| run.0 / run.1[i]);
+        let (low, high) = ratios.fold((f64::MAX, 0.0f64), |(low, high), ratio| (low.min(ratio), high.max(ratio)));
+        println!("| {name} | {} | {:.0} | {:.2} | {low:.2} to {high:.2} |", show(rust), LOGS as f64 / rust, library / rust);
+    }
+}
+
 /// One process's times: of the calls on logs of each size, then of a start with a price file, then of the checker on many rows.
 fn measured(wanted: &dyn Fn(&str) -> bool) -> Vec<Line> {
     let mut lines = Vec::new();
@@ -496,7 +611,7 @@ fn gathered(words: &[String]) -> Vec<Line> {
     let mut least: Vec<Line> = Vec::new();
     for _ in 0..PROCESSES {
         let own = std::env::current_exe().unwrap();
-        let output = std::process::Command::new(own).arg("--raw").args(words).output().unwrap();
+        let output = Command::new(own).arg("--raw").args(words).output().unwrap();
         assert!(output.status.success(), "{}", String::from_utf8_lossy(&output.stderr));
         let lines: Vec<Line> = String::from_utf8(output.stdout).unwrap().lines().map(Line::parsed).collect();
         if least.is_empty() {
@@ -508,8 +623,11 @@ fn gathered(words: &[String]) -> Vec<Line> {
     least
 }
 
-/// Names of calls on the command line choose these alone, those of several words in quotes, and `rows` the checker on many rows.
+/// Names of calls on the command line choose these alone, those of several words in quotes, `rows` the checker on many rows, and `season` the season.
 fn main() {
+    if is_season() {
+        return;
+    }
     let words: Vec<String> = std::env::args().skip(1).filter(|word| !word.starts_with('-')).collect();
     let wanted = |name: &str| words.is_empty() || words.iter().any(|word| word == name);
     if std::env::args().any(|word| word == "--raw") {
@@ -530,6 +648,9 @@ fn main() {
     }
     if !rows.is_empty() {
         show_rows(&rows);
+    }
+    if wanted(SEASON) {
+        show_season();
     }
 }
 

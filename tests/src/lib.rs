@@ -16,6 +16,7 @@ pub mod prices;
 pub mod quote;
 pub mod random;
 pub mod search;
+pub mod season;
 pub mod sheet;
 pub mod week;
 

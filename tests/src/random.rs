@@ -313,6 +313,58 @@ pub fn damaged_log(random: &mut Random, table: &Table) -> Vec<u8> {
     file
 }
 
+/// A log in a file as long as its header says, refused with a number from 10 to 13.
+pub fn wrong_log(random: &mut Random, number: u8) -> Vec<u8> {
+    let mut log = random_log(random, &Table::built_in(), 8);
+    let first = usize::from(number == 13);
+    while log.requests.len() <= first {
+        log.requests.push(Request { second: log.last_second() + 1, server: 0 });
+    }
+    let at = random.between(first as u64, log.requests.len() as u64 - 1) as usize;
+    match number {
+        11 => log.requests[at].server = random.one_of(&[log.header.server_count as u16, 64, 256, 0xffff]),
+        12 => log.requests[at].second = random.one_of(&[0, LAST_SECOND + 1, u32::MAX]),
+        13 => log.requests[at].second = random.between(1, log.requests[at - 1].second as u64) as u32,
+        _ => {}
+    }
+    let mut file = log.bytes();
+    if number == 10 {
+        let at = random.between(20, file.len() as u64 - 1) as usize;
+        file[at] ^= 1 << random.below(8);
+    }
+    file
+}
+
+/// The logs of a season, end to end, at most so many with at most so many requests: most of them right, some as long as they say and refused, a few
+/// once more or once more in three times the prices, and now and then one wrong in any way. The end may be missing.
+pub fn random_season(random: &mut Random, logs: usize, requests: usize) -> Vec<u8> {
+    let table = Table::built_in();
+    let mut input = vec![];
+    let mut taken: Vec<Log> = vec![];
+    for _ in 0..random.between(0, logs as u64) {
+        match random.below(40) {
+            0 => input.extend(damaged_log(random, &table)),
+            number @ 1..=8 => input.extend(wrong_log(random, 10 + (number % 4) as u8)),
+            9..=14 if !taken.is_empty() => {
+                let mut log = taken[random.below(taken.len() as u64) as usize].clone();
+                // class 3 has three times the prices of class 0
+                if log.header.class % 3 == 0 && log.header.class < 6 {
+                    log.header.class = 3 - log.header.class;
+                }
+                input.extend(log.bytes());
+            }
+            _ => {
+                taken.push(random_log(random, &table, requests));
+                input.extend(taken[taken.len() - 1].bytes());
+            }
+        }
+    }
+    if random.once_in(4) {
+        input.truncate(input.len().saturating_sub(random.between(1, 60) as usize));
+    }
+    input
+}
+
 fn put(file: &mut [u8], at: usize, bytes: &[u8]) {
     if at + bytes.len() <= file.len() {
         file[at..at + bytes.len()].copy_from_slice(bytes);

@@ -1,8 +1,10 @@
 //! The program `sheet`, run as a user would run it, compared with the simple version: target/bin/sheet of this repository.
 
+mod one_log;
 mod programs;
 
-use programs::{file_with, given, week_c, Program};
+use one_log::{week_c, NO_LOG};
+use programs::{file_with, given, Program};
 use reference::compare::lifetime::{tables_with_class_7, SAMPLE, SAMPLE_SHEET};
 use reference::compare::prices::boundary_files;
 use reference::compare::weeks::log_of;
@@ -16,7 +18,7 @@ use std::os::unix::ffi::OsStrExt;
 use std::path::{Path, PathBuf};
 use std::process::{Command, Stdio};
 
-const SHEET: Program = Program { name: "sheet", printed: |input| printed(None, input) };
+const SHEET: Program = Program { name: "sheet", printed: |input| printed(None, input), nothing: NO_LOG };
 
 fn run(input: &[u8]) -> String {
     SHEET.run(input)

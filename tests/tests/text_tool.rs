@@ -59,6 +59,21 @@ fn the_sample_of_three_days() {
     assert_eq!(written(LOGS, &["5", "4", "0", "three-days"], &text), log);
 }
 
+/// The season's logs are the tool's, but for the second: a log whose last byte is another.
+#[test]
+fn the_sample_season() {
+    let week_b = std::fs::read(root().join("samples/week-b.log")).unwrap();
+    let week_e = |class, id| written(LOGS, &[class, "2", "0", id], b"1 1\n12 0\n");
+    let logs = [
+        written(LOGS, &["0", "2", "0", "empty"], b""),
+        [&week_b[..week_b.len() - 1], &[1]].concat(),
+        week_b.clone(),
+        week_e("0", "week-e"),
+        week_e("3", "week-e-dearer"),
+    ];
+    assert_eq!(logs.concat(), std::fs::read(root().join("samples/season.log")).unwrap());
+}
+
 #[test]
 fn layouts_of_one_text() {
     let plain = made(b"5 1\n8 2\n");

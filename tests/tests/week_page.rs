@@ -1,8 +1,10 @@
 //! The program `week_page`, run as a user would run it, compared with the simple version: target/bin/week_page of this repository.
 
+mod one_log;
 mod programs;
 
-use programs::{file_with, given, week_c, Program};
+use one_log::{week_c, NO_LOG};
+use programs::{file_with, given, Program};
 use reference::compare::lifetime;
 use reference::compare::week::{with_faults, SAMPLES};
 use reference::compare::weeks::log_of;
@@ -11,7 +13,7 @@ use reference::prices::{encode, Table, BUILT_IN};
 use reference::random::{damaged_log, random_log, random_week, requests_of_week, Random};
 use reference::week::{printed, DAY, WEEK};
 
-const PAGE: Program = Program { name: "week_page", printed };
+const PAGE: Program = Program { name: "week_page", printed, nothing: NO_LOG };
 
 /// A full week of the most requests and servers, whose page is longer than a short pipe holds.
 fn long_week() -> Vec<u8> {

@@ -1,10 +1,10 @@
--- Lists of conditions of which none gives a number. Assumes nothing.
+-- Lists of conditions of which none gives a number, and those whose numbers lie between two. Assumes nothing.
 use mathlib.Core.Bool.{Bool, true, false}
 use mathlib.Core.List.{List, [], _∷_, _++_}
 use mathlib.Core.Logic.{_≢_}
 use mathlib.Core.Path.{_≡_, refl, sym, _∙_}
 use native.Mathlib.Omega.{arith}
-use Prim.Native.Nat.{ℕ, zero, suc}
+use Prim.Native.Nat.{ℕ, zero, suc, _≤_}
 use Rattle.base.specs.declared.Refusal.{Refusal}
 use Rattle.base.specs.declared.Verdict.{Verdict}
 use Rattle.base.specs.declared.Verdict.the-variants.{Passed, Refused}
@@ -48,3 +48,32 @@ first-never n (c ∷ cs) (more h w) r e = go (c .holds) refl (λ q. first-never 
 pub otherwise-never : (n : ℕ) (v : Verdict) (cs : List Condition) → Never n v → Without n cs → Never n (otherwise v (first cs))
 otherwise-never n Passed cs h w = first-never n cs w
 otherwise-never n (Refused q) cs h w = h
+
+-- the numbers of a list lie from a to b
+pub data Between (a b : ℕ) : List Condition → Type 0 where
+  end : Between a b []
+  next : {c : Condition} {cs : List Condition} → a ≤ c .number → c .number ≤ b → Between a b cs → Between a b (c ∷ cs)
+
+-- one condition more
+pub between : {a b : ℕ} {c : Condition} {cs : List Condition} → (a ≤ c .number) × (c .number ≤ b) → Between a b cs → Between a b (c ∷ cs)
+between h w = next (h .0) (h .1) w
+
+-- two lists, and those of the first m things
+pub both-between : {a b : ℕ} {xs ys : List Condition} → Between a b xs → Between a b ys → Between a b (xs ++ ys)
+both-between end w = w
+both-between (next h l v) w = next h l (both-between v w)
+
+pub each-between : {a b : ℕ} (f : ℕ → List Condition) → ((i : ℕ) → Between a b (f i)) → (m : ℕ) → Between a b (each f m)
+unfolding each
+each-between f w zero = end
+each-between f w (suc m) = both-between (each-between f w m) (w m)
+
+-- then so does the number that the list refuses with
+pub first-between : {a b : ℕ} {cs : List Condition} (r : Refusal) → Between a b cs → first cs ≡ Refused r → (a ≤ r .number) × (r .number ≤ b)
+unfolding first
+first-between r end e = absurd (let z : _≡_ {A = ℕ} 0 1 = cc in omega arith)
+first-between {a} {b} r (next {c} {cs} h l w) e = go (c .holds) refl (λ q. first-between r w q)
+  where
+    go : (t : Bool) → c .holds ≡ t → (first cs ≡ Refused r → (a ≤ r .number) × (r .number ≤ b)) → (a ≤ r .number) × (r .number ≤ b)
+    go true q rec = let z : c .number ≡ r .number = cc (first-met c cs q) in (omega arith, omega arith)
+    go false q rec = rec (sym (first-failed c cs q) ∙ e)

@@ -61,7 +61,7 @@ fn print_written(w: Written) {
 
 fn write_case(name: &[u8], header: Header, seconds: &[u32], servers: &[u16], log: &mut [u8]) {
     print(name);
-    print_written(log::write(header, seconds, servers, log));
+    print_written(writer::write(header, seconds, servers, log));
 }
 
 fn header(class: u8, server_count: u8, home: u8) -> Header {
@@ -76,7 +76,7 @@ fn header(class: u8, server_count: u8, home: u8) -> Header {
 // A log of two requests: 5 at 1, `second` at 0; 2 servers, home 0, class 0.
 fn sample(second: u32) -> [u8; 52] {
     let mut log = [0u8; 52];
-    log::write(header(0, 2, 0), &[5u32, second], &[1u16, 0], &mut log);
+    writer::write(header(0, 2, 0), &[5u32, second], &[1u16, 0], &mut log);
     log
 }
 
@@ -292,7 +292,7 @@ fn write_cases() {
 fn loaded_case() {
     let mut log = [9u8; 52];
     let prices = built_in();
-    let w = log::write_with(&prices, header(7, 2, 0), &[5u32, 8], &[1u16, 0], &mut log);
+    let w = writer::write_with(&prices, header(7, 2, 0), &[5u32, 8], &[1u16, 0], &mut log);
     print(b"class 7 by a price file:");
     print_written(w);
     show(b"its log without the file:", &log);

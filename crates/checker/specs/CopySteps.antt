@@ -12,40 +12,19 @@ use Rattle.base.specs.RefusalLaws.{first-append}
 use Rattle.base.specs.Sets.{has}
 use Rattle.model.specs.RowForm.{row-at}
 use Rattle.model.specs.Checking.{row-count}
-use Rattle.checker.specs.declared.Quad.{Quad}
-use Rattle.checker.specs.Reading.{quad-at, as-row, server-of, second-of}
-use Rattle.checker.specs.ReadingLaws.{server-read, target-read}
+use Rattle.rows.specs.declared.Quad.{Quad}
+use Rattle.rows.specs.Reading.{quad-at, as-row, server-of, second-of}
+use Rattle.rows.specs.ReadingLaws.{server-read, target-read}
+use Rattle.rows.specs.Passes.{any-below, puts, starts}
+use Rattle.rows.specs.PassSteps.{aims-on}
 use Rattle.checker.specs.Search.{hold-key, second-key, upload-key, position}
-use Rattle.checker.specs.Quick.{standing-at, any-below, aims, first-of, number-of, first-upload, puts, loaded, fed, starts, unfed, lower, starved, unbacked, hold-test, transfer-test, copy-tests}
-use Rattle.checker.specs.AnyLaws.{any-of, any-more}
+use Rattle.checker.specs.Quick.{standing-at, first-of, number-of, first-upload, loaded, fed, unfed, lower, starved, unbacked, hold-test, transfer-test, copy-tests}
 use Rattle.checker.specs.QuickSteps.{unless, alone}
 
 -- one condition, which refuses where a test holds
 found : (b : Bool) (number place : ℕ) → first (refuse number place b ∷ []) ≡ unless (not b) number place
 found true number place = alone false number place
 found false number place = alone true number place
-
--- ---- transfers to a server
-
-module _ (ns : List ℕ) (x from : ℕ) where
-  -- row from + j is one
-  abbrev pub aims-on : ℕ → Bool
-  aims-on j = aims x (row-at ns (from + j))
-
-  -- row i, by the numbers that were read
-  aims-read : (i : ℕ) (r : Quad) (b : Bool) → from ≤ i → r ≡ quad-at ns i → aims x (as-row r) ≡ b → aims-on (i - from) ≡ b
-  unfolding quad-at row-at
-  aims-read i r b h d e = let m : from + (i - from) ≡ i = omega arith in rw m (rw d at e)
-
-  -- it is one, or none up to it
-  pub aimed-there : (to i : ℕ) (r : Quad) → from ≤ i → i < to → r ≡ quad-at ns i → aims x (as-row r) ≡ true → any-below (to - from) aims-on ≡ true
-  aimed-there to i r h l d e = any-of (to - from) aims-on (i - from) (omega arith) (aims-read i r true h d e)
-
-  pub aimed-more : (i : ℕ) (r : Quad) → from ≤ i → any-below (i - from) aims-on ≡ false → r ≡ quad-at ns i → aims x (as-row r) ≡ false
-      → any-below (i + 1 - from) aims-on ≡ false
-  aimed-more i r h p d e =
-      let n : i + 1 - from ≡ suc (i - from) = omega arith in
-      rw n (any-more (i - from) aims-on p (aims-read i r false h d e))
 
 -- the transfers of a second, and its upload to the server
 pub fed-read : (home : ℕ) (ns : List ℕ) (t x from to : ℕ) (b d : Bool) → from ≡ position ns (second-key t) → to ≡ position ns (second-key (suc t))

@@ -10,8 +10,8 @@ use Rattle.model.specs.Sums.{total}
 use Rattle.model.specs.Schedule.{Row}
 use Rattle.model.specs.RowForm.{row-at, rows-upto, rows-of}
 use Rattle.model.specs.Checking.{row-count}
-use Rattle.checker.specs.declared.Quad.{Quad}
-use Rattle.checker.specs.Reading.{quad-at, as-row}
+use Rattle.rows.specs.declared.Quad.{Quad}
+use Rattle.rows.specs.Reading.{quad-at, as-row}
 
 -- the total over two lists
 total-append : (f : Row → ℕ) (xs ys : List Row) → total f (xs ++ ys) ≡ total f xs + total f ys

@@ -2,14 +2,10 @@
 -- What a reader believes: what it answers.
 pub mod Answers
 -- How the code comes by it, and why that is the same.
-pub mod Reading
-pub mod ReadingLaws
-pub mod GivenLaws
 pub mod Search
 pub mod SearchLaws
 pub mod KeyLaws
 pub mod Quick
-pub mod AnyLaws
 pub mod QuickSets
 pub mod QuickUploads
 pub mod QuickReach

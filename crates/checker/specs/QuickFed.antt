@@ -20,11 +20,12 @@ use Rattle.model.specs.StandingLaws.{stands-sound}
 use Rattle.model.specs.RowForm.{row-at, rows-of}
 use Rattle.model.specs.RowLaws.{fits-hold, row-member, member-row}
 use Rattle.model.specs.Checking.{row-count, backed, copy-condition}
-use Rattle.checker.specs.Reading.{server-of, second-of, target-of}
+use Rattle.rows.specs.Reading.{server-of, second-of, target-of}
+use Rattle.rows.specs.Passes.{covers, any-below, aims, starts}
+use Rattle.rows.specs.AnyLaws.{any-is, any-of, either-last, same-test}
 use Rattle.checker.specs.Search.{hold-key, position}
 use Rattle.checker.specs.KeyLaws.{Shaped}
-use Rattle.checker.specs.Quick.{covers, first-of, number-of, first-upload, standing-at, any-below, aims, loaded, fed, starts, unfed, starved, hold-test}
-use Rattle.checker.specs.AnyLaws.{any-is, any-of, either-last, same-test}
+use Rattle.checker.specs.Quick.{first-of, number-of, first-upload, standing-at, loaded, fed, unfed, starved, hold-test}
 use Rattle.checker.specs.QuickStanding.{in-second}
 use Rattle.checker.specs.QuickUploads.{loaded-of, loaded-is}
 use Rattle.checker.specs.QuickHolds.{unfed-by, starved-first, starved-one, starting, there, hold-uncovered, hold-agrees, hold-position, first-within, hold-row, second-row}

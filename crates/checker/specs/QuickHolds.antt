@@ -16,12 +16,13 @@ use Rattle.model.specs.StandingLaws.{stands-complete}
 use Rattle.model.specs.RowForm.{row-at, rows-of}
 use Rattle.model.specs.RowLaws.{fits-hold, fits-move, member-row}
 use Rattle.model.specs.Checking.{row-count}
-use Rattle.checker.specs.Reading.{second-of, target-of}
+use Rattle.rows.specs.Reading.{second-of, target-of}
+use Rattle.rows.specs.Passes.{covers, any-below, starts}
+use Rattle.rows.specs.AnyLaws.{any-is}
 use Rattle.checker.specs.Search.{hold-key, second-key, upload-key, key, position}
 use Rattle.checker.specs.KeyLaws.{Shaped, end-key, keys-rise, keys-up}
 use Rattle.checker.specs.SearchLaws.{position-most, before-position, from-position, position-up, own-position}
-use Rattle.checker.specs.Quick.{covers, first-of, number-of, first-upload, standing-at, any-below, starts, unfed, lower, starved}
-use Rattle.checker.specs.AnyLaws.{any-is}
+use Rattle.checker.specs.Quick.{first-of, number-of, first-upload, standing-at, unfed, lower, starved}
 use Rattle.checker.specs.QuickReach.{Covering, covering}
 use Rattle.checker.specs.QuickStanding.{standing-agrees}
 

@@ -13,7 +13,8 @@ use Rattle.log.specs.Conditions.{before}
 use Rattle.model.specs.LogRequests.{requests-in}
 use Rattle.model.specs.LogRequestLaws.{last-is}
 use Rattle.model.specs.Checking.{row-count}
-use Rattle.checker.specs.Quick.{row-tests, copy-tests, serve-test, schedule-tests}
+use Rattle.rows.specs.Passes.{row-tests}
+use Rattle.checker.specs.Quick.{copy-tests, serve-test, schedule-tests}
 
 -- 14
 abbrev pub whole-test : List ℕ → List Condition

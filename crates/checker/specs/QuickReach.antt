@@ -15,11 +15,12 @@ use Rattle.model.specs.Standing.{reached}
 use Rattle.model.specs.RowForm.{row-at, rows-of}
 use Rattle.model.specs.RowLaws.{fits-hold}
 use Rattle.model.specs.Checking.{row-count}
+use Rattle.rows.specs.Passes.{join, covers, puts, any-below}
+use Rattle.rows.specs.AnyLaws.{same-test, any-is, any-of, any-either}
 use Rattle.checker.specs.Search.{hold-key, key, position}
 use Rattle.checker.specs.KeyLaws.{Shaped, end-key, keys-rise, keys-up}
 use Rattle.checker.specs.SearchLaws.{position-most, before-position, from-position}
-use Rattle.checker.specs.Quick.{join, covers, puts, reaches, gather, begun, uploaded-to, any-below}
-use Rattle.checker.specs.AnyLaws.{same-test, any-is, any-of, any-either}
+use Rattle.checker.specs.Quick.{reaches, gather, begun, uploaded-to}
 use Rattle.checker.specs.QuickSets.{both-none, through-has, gather-has}
 use Rattle.checker.specs.QuickUploads.{uploaded-has}
 

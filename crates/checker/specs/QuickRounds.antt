@@ -13,10 +13,11 @@ use Rattle.model.specs.Standing.{arrive, through, rounds}
 use Rattle.model.specs.RowForm.{row-at, rows-upto, rows-of, fits}
 use Rattle.model.specs.RowLaws.{fits-move}
 use Rattle.model.specs.Checking.{row-count}
+use Rattle.rows.specs.Passes.{join, arrival, along, settle}
 use Rattle.checker.specs.Search.{second-key, key, position}
 use Rattle.checker.specs.KeyLaws.{Shaped, keys-up}
 use Rattle.checker.specs.SearchLaws.{position-most, before-position, from-position, position-up}
-use Rattle.checker.specs.Quick.{join, arrival, along, settle, first-of, number-of, second-pass}
+use Rattle.checker.specs.Quick.{first-of, number-of, second-pass}
 use Rattle.checker.specs.QuickSets.{through-more}
 
 -- ---- a pass that adds nothing

@@ -14,9 +14,10 @@ use Rattle.base.specs.ChoiceLaws.{both-end}
 use Rattle.model.specs.Schedule.{Row, hold, move, transfer, upload}
 use Rattle.model.specs.Standing.{reach, through}
 use Rattle.model.specs.RowForm.{row-at, rows-upto}
-use Rattle.checker.specs.Reading.{server-of}
-use Rattle.checker.specs.Quick.{join, covers, puts, reaches, servers, with-hold, gather, any-below}
-use Rattle.checker.specs.AnyLaws.{either-last, either-none}
+use Rattle.rows.specs.Reading.{server-of}
+use Rattle.rows.specs.Passes.{join, covers, puts, servers, any-below}
+use Rattle.rows.specs.AnyLaws.{either-last, either-none}
+use Rattle.checker.specs.Quick.{reaches, with-hold, gather}
 
 -- both tests, where the second fails
 pub both-none : (a : Bool) → both a false ≡ false

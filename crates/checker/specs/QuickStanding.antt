@@ -15,12 +15,12 @@ use Rattle.model.specs.Standing.{arrive, through, reached, rounds, standing, st
 use Rattle.model.specs.RowForm.{row-at, rows-of}
 use Rattle.model.specs.RowLaws.{fits-move, member-row}
 use Rattle.model.specs.Checking.{row-count}
-use Rattle.checker.specs.Reading.{server-of}
+use Rattle.rows.specs.Reading.{server-of}
+use Rattle.rows.specs.AnyLaws.{any-of, either-last}
 use Rattle.checker.specs.Search.{second-key, key, position}
 use Rattle.checker.specs.KeyLaws.{Shaped, keys-up}
 use Rattle.checker.specs.SearchLaws.{position-most, before-position, from-position}
 use Rattle.checker.specs.Quick.{sources, first-of, number-of, before-transfers, second-pass, standing-at}
-use Rattle.checker.specs.AnyLaws.{any-of, either-last}
 use Rattle.checker.specs.QuickSets.{put-has, servers-has}
 use Rattle.checker.specs.QuickUploads.{server-below}
 use Rattle.checker.specs.QuickReach.{Known, before-agrees}

@@ -26,16 +26,17 @@ use Rattle.model.specs.Standing.{stands}
 use Rattle.model.specs.RowForm.{row-at, rows-of, fits}
 use Rattle.model.specs.RowLaws.{row-member}
 use Rattle.model.specs.Checking.{row-count, kind-fits, misfits, misplaced, row-conditions, backed, copy-condition, serve-condition, schedule-conditions}
-use Rattle.checker.specs.Reading.{server-of, second-of}
+use Rattle.rows.specs.Reading.{server-of, second-of}
+use Rattle.rows.specs.GivenLaws.{given-some}
+use Rattle.rows.specs.Passes.{covers, offering, row-tests, any-below}
+use Rattle.rows.specs.AnyLaws.{any-is}
 use Rattle.checker.specs.Search.{upload-key, In-order}
 use Rattle.checker.specs.KeyLaws.{Shaped, keys-up}
-use Rattle.checker.specs.Quick.{covers, reaches, first-of, first-upload, standing-at, offering, row-tests, any-below, unbacked, hold-test, transfer-test, copy-tests, stands-at, served, serve-test, schedule-tests}
+use Rattle.checker.specs.Quick.{reaches, first-of, first-upload, standing-at, unbacked, hold-test, transfer-test, copy-tests, stands-at, served, serve-test, schedule-tests}
 use Rattle.checker.specs.SearchLaws.{from-position}
-use Rattle.checker.specs.AnyLaws.{any-is}
 use Rattle.checker.specs.EachLaws.{each-same, each-until, each-split}
 use Rattle.checker.specs.QuickReach.{covering, finds, not-found}
 use Rattle.checker.specs.QuickUploads.{upload-row}
-use Rattle.checker.specs.GivenLaws.{given-some}
 use Rattle.checker.specs.QuickStanding.{source-in, standing-agrees}
 use Rattle.checker.specs.QuickHolds.{there, transfer-row, transfers-first, upload-within}
 use Rattle.checker.specs.QuickFed.{low, same-hold, low-refused}

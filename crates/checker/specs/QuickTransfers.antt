@@ -13,7 +13,7 @@ use Rattle.base.specs.Refusals.{Condition, refuse, first, each, otherwise}
 use Rattle.base.specs.RefusalLaws.{each-suc}
 use Rattle.model.specs.RowForm.{row-at}
 use Rattle.model.specs.Checking.{row-count}
-use Rattle.checker.specs.Reading.{server-of, second-of}
+use Rattle.rows.specs.Reading.{server-of, second-of}
 use Rattle.checker.specs.Quick.{standing-at, lower, unbacked, transfer-test}
 
 -- the source of row i is in the set at its second

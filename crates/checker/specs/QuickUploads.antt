@@ -14,12 +14,13 @@ use Rattle.model.specs.Schedule.{Row, hold, move, transfer, upload}
 use Rattle.model.specs.RowForm.{row-at, fits}
 use Rattle.model.specs.RowLaws.{fits-hold, fits-move, fits-upload}
 use Rattle.model.specs.Checking.{row-count}
-use Rattle.checker.specs.Reading.{server-of}
+use Rattle.rows.specs.Reading.{server-of}
+use Rattle.rows.specs.Passes.{any-below, puts}
+use Rattle.rows.specs.AnyLaws.{same-test, any-is, any-of}
 use Rattle.checker.specs.Search.{hold-key, second-key, upload-key, key, position}
 use Rattle.checker.specs.KeyLaws.{Shaped, keys-up}
 use Rattle.checker.specs.SearchLaws.{position-most, before-position, from-position, own-position}
-use Rattle.checker.specs.Quick.{begun, first-upload, upload-number, uploaded-to, any-below, puts, loaded}
-use Rattle.checker.specs.AnyLaws.{same-test, any-is, any-of}
+use Rattle.checker.specs.Quick.{begun, first-upload, upload-number, uploaded-to, loaded}
 use Rattle.checker.specs.QuickSets.{servers-has}
 
 -- an upload of τ to x

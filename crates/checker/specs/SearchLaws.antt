@@ -11,9 +11,9 @@ use Rattle.base.specs.Choice.{pick, le-or-lt, same-or-not}
 use Rattle.base.specs.LowestLaws.{lowest-is}
 use Rattle.model.specs.RowForm.{row-of, row-at}
 use Rattle.model.specs.Checking.{row-count}
-use Rattle.checker.specs.declared.Quad.{Quad}
-use Rattle.checker.specs.Reading.{quad-at, as-row, second-of}
-use Rattle.checker.specs.ReadingLaws.{row-transfer, row-upload}
+use Rattle.rows.specs.declared.Quad.{Quad}
+use Rattle.rows.specs.Reading.{quad-at, as-row, second-of}
+use Rattle.rows.specs.ReadingLaws.{row-transfer, row-upload}
 use Rattle.checker.specs.Search.{second-key, upload-key, key, from-on, position, In-order}
 
 -- the place of a transfer or an upload

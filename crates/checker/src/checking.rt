@@ -11,12 +11,10 @@ ghost use Rattle.model.specs.Sums.{total};
 ghost use Rattle.model.specs.Schedule.{length-of, is-transfer, is-upload};
 ghost use Rattle.model.specs.RowForm.{rows-of};
 ghost use Rattle.model.specs.Checking.{check-cost};
-ghost use Rattle.checker.specs.Reading.{as-row};
+ghost use Rattle.rows.specs.Reading.{as-row};
 ghost use Rattle.checker.specs.Answers.{check-answer};
 use crate::Checked;
-use crate::Quad;
 use crate::conditions::schedule_fault;
-use crate::rows::row;
 use base::Verdict;
 use base::bytes::at;
 use base::widths::u64_from_u32;
@@ -26,45 +24,17 @@ use prices::built_in;
 use prices::file_fault;
 use prices::of_class;
 use prices::upload_fault;
+use rows::Quad;
+use rows::row;
+use rows::seconds;
+use rows::transfers;
+use rows::uploads;
 
 // The seconds held, and the numbers of transfers and uploads.
 struct Tally {
     seconds: u64,
     transfers: u64,
     uploads: u64,
-}
-
-// The seconds that a row holds.
-fn seconds(r: Quad) -> u64
-    ensures { λ s. ⌜ s ≡ length-of (as-row r) ⌝ }
-{
-    if r.kind != 0 {
-        return 0;
-    }
-    if r.c < r.b {
-        return 0;
-    }
-    u64_from_u32(r.c - r.b)
-}
-
-// 1 for a transfer.
-fn transfers(r: Quad) -> u64
-    ensures { λ s. ⌜ s ≡ is-transfer (as-row r) ⌝ }
-{
-    if r.kind != 1 {
-        return 0;
-    }
-    1
-}
-
-// 1 for an upload.
-fn uploads(r: Quad) -> u64
-    ensures { λ s. ⌜ s ≡ is-upload (as-row r) ⌝ }
-{
-    if r.kind <= 1 {
-        return 0;
-    }
-    1
 }
 
 // The sums with one more row.

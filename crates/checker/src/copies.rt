@@ -1,29 +1,31 @@
 // 17: rows with no copy where they begin or leave.
 ghost use mathlib.Core.Path.{_≡_};
 ghost use mathlib.Core.Bool.{not};
-ghost use Prim.Native.Nat.{_+_, _-_, _≤_};
+ghost use Prim.Native.Nat.{suc, _-_, _<_, _≤_};
 ghost use lib.Dec.{eqb};
 ghost use Rattle.base.specs.Choice.{pick, either, both};
 ghost use Rattle.base.specs.Sets.{has};
 ghost use Rattle.base.specs.Refusals.{first, each};
 ghost use Rattle.model.specs.RowForm.{row-at};
 ghost use Rattle.model.specs.Checking.{row-count};
-ghost use Rattle.checker.specs.Reading.{as-row, server-of, second-of};
+ghost use Rattle.rows.specs.Reading.{server-of, second-of};
+ghost use Rattle.rows.specs.Passes.{puts, starts};
 ghost use Rattle.checker.specs.Search.{In-order};
-ghost use Rattle.checker.specs.Quick.{first-upload, standing-at, any-below, aims, puts, loaded, fed, starts, unfed, lower, starved, unbacked, hold-test, transfer-test, copy-tests};
-use crate::Quad;
+ghost use Rattle.checker.specs.Quick.{first-upload, standing-at, loaded, fed, unfed, lower, starved, unbacked, hold-test, transfer-test, copy-tests};
 use crate::hints::after_holds;
 use crate::hints::after_second;
 use crate::hints::from_second;
 use crate::hints::from_upload;
-use crate::rows::place;
-use crate::rows::row;
-use crate::rows::second;
-use crate::rows::whole;
-use crate::standing::member;
 use crate::standing::standing;
 use base::Refusal;
 use base::Verdict;
+use base::widths::u64_from_size;
+use rows::aimed;
+use rows::member;
+use rows::puts;
+use rows::row;
+use rows::second;
+use rows::starts;
 
 // The set at a second.
 struct Seen {
@@ -35,6 +37,14 @@ struct Seen {
 struct Faults {
     hold: usize,
     transfer: usize,
+}
+
+// Rows and requests are counted from 1.
+pub(crate) fn place(i: usize) -> u64
+    requires { ⌜ i < 4611686018427387904 ⌝ }
+    ensures { λ r. ⌜ r ≡ suc i ⌝ }
+{
+    u64_from_size(i) + 1
 }
 
 // The set at second t, where it may be known.
@@ -59,30 +69,6 @@ fn seen_at(
     }
 }
 
-// Is the row a transfer to server x?
-fn aims(x: u32, r: Quad) -> bool
-    ensures { λ s. ⌜ s ≡ aims x (as-row r) ⌝ }
-{
-    if r.kind != 1 {
-        return false;
-    }
-    r.b == x
-}
-
-// Is one of the rows from one on up to another a transfer to server x?
-fn aimed(ns: &[u32], from: usize, to: usize, x: u32) -> bool
-    ensures { λ r. ⌜ r ≡ any-below (to - from) (λ j. aims x (row-at (now (ns .entry)) (from + j))) ⌝ }
-{
-    let mut i = from;
-    while i < to {
-        if aims(x, row(ns, i)) {
-            return true;
-        }
-        i += 1;
-    }
-    false
-}
-
 // Is this home at second 0?
 fn begins(home: u32, t: u32, x: u32) -> bool
     ensures { λ r. ⌜ r ≡ both (eqb t 0) (eqb x home) ⌝ }
@@ -91,19 +77,6 @@ fn begins(home: u32, t: u32, x: u32) -> bool
         return x == home;
     }
     false
-}
-
-// Is the row an upload of second t to server x?
-fn puts(t: u32, x: u32, r: Quad) -> bool
-    ensures { λ s. ⌜ s ≡ puts t x (as-row r) ⌝ }
-{
-    if r.kind <= 1 {
-        return false;
-    }
-    if r.a != x {
-        return false;
-    }
-    r.b == t
 }
 
 // Is there one?
@@ -132,19 +105,6 @@ fn fed(ns: &[u32], hints: &mut [usize; 66], home: u32, t: u32, x: u32) -> bool
         return true;
     }
     loaded(ns, hints, t, x)
-}
-
-// Is the row a hold of server x that begins at second t?
-fn starts(t: u32, x: u32, r: Quad) -> bool
-    ensures { λ s. ⌜ s ≡ starts t x (as-row r) ⌝ }
-{
-    if r.kind != 0 {
-        return false;
-    }
-    if r.a != x {
-        return false;
-    }
-    r.b == t
 }
 
 // The hold at server x from second t on, if the set at t has not x; past the last row where there is none.
@@ -203,7 +163,7 @@ fn scan(
     let mut late = rows;
     let mut i = from;
     while i < uploads {
-        let r = whole(ns, i);
+        let r = row(ns, i);
         seen = seen_at(ns, hints, uploads, count, home, seen, second(r));
         low = lower(unfed(ns, hints, seen.word, seen.second, r.b), low);
         late = lower(unbacked(ns, seen.word, r.a, i), late);

@@ -3,7 +3,6 @@ mod checking;
 mod conditions;
 mod copies;
 mod hints;
-mod rows;
 mod search;
 mod standing;
 
@@ -17,12 +16,4 @@ pub use checking::check_with;
 pub enum Checked {
     Cost(u64),
     Refused(Refusal),
-}
-
-// A row's four numbers: its kind and three more.
-pub struct Quad {
-    pub kind: u32,
-    pub a: u32,
-    pub b: u32,
-    pub c: u32,
 }

@@ -3,12 +3,12 @@ ghost use mathlib.Core.Path.{_≡_};
 ghost use Prim.Native.Nat.{_-_, _<_, _≤_};
 ghost use lib.Dec.{ltb, eqb};
 ghost use Rattle.base.specs.Choice.{pick};
-ghost use Rattle.checker.specs.Reading.{as-row};
+ghost use Rattle.rows.specs.Reading.{as-row};
 ghost use Rattle.checker.specs.Search.{key, position, In-order};
-use crate::Quad;
-use crate::rows::row;
-use crate::rows::second;
 use base::widths::u64_from_u32;
+use rows::Quad;
+use rows::row;
+use rows::second;
 
 // Rows among which one is sought: from lo on, up to hi.
 struct Span {

@@ -93,7 +93,7 @@ pub extern "C" fn caching_write(
     ensures { λ r. ⌜ r ≡ of-write (written (write-verdict built-in-offer (contents header (now (seconds .entry)) (now (servers .entry))) (length (now (log .entry)))) (contents header (now (seconds .entry)) (now (servers .entry)))) ⌝ }
     ensures { λ _. ⌜ now (log .exit) ≡ log-left built-in-offer (contents header (now (seconds .entry)) (now (servers .entry))) (now (log .entry)) ⌝ }
 {
-    of_write(log::write(header, seconds, servers, log))
+    of_write(writer::write(header, seconds, servers, log))
 }
 
 // The answer's value is the log's length.
@@ -108,5 +108,5 @@ pub extern "C" fn caching_write_with(
     ensures { λ r. ⌜ r ≡ of-write (written (write-verdict (file-offer (now (prices .entry))) (contents header (now (seconds .entry)) (now (servers .entry))) (length (now (log .entry)))) (contents header (now (seconds .entry)) (now (servers .entry)))) ⌝ }
     ensures { λ _. ⌜ now (log .exit) ≡ log-left (file-offer (now (prices .entry))) (contents header (now (seconds .entry)) (now (servers .entry))) (now (log .entry)) ⌝ }
 {
-    of_write(log::write_with(prices, header, seconds, servers, log))
+    of_write(writer::write_with(prices, header, seconds, servers, log))
 }

@@ -8,11 +8,13 @@ use mathlib.Core.Path.{_≡_, refl, ap}
 use Prim.Native.Nat.{ℕ, suc, _-_, _≤_}
 use native.Mathlib.Omega.{arith}
 use borrow.Author.Tests.{ltb-false}
+use lib.Dec.{leb}
 use lib.ListN.{length, replicate, length-append, length-replicate}
+use lib.Seq.{length-take-le}
 use Rattle.base.specs.declared.Refusal.{Refusal}
 use Rattle.base.specs.declared.Verdict.{Verdict}
 use Rattle.base.specs.declared.Verdict.the-variants.{Passed, Refused}
-use Rattle.base.specs.Refusals.{Condition, first, otherwise, short, nth, First}
+use Rattle.base.specs.Refusals.{Condition, refuse, first, otherwise, short, nth, First}
 use Rattle.base.specs.RefusalLaws.{first-refused, first-passed, first-append, otherwise-passed, append-passed}
 use Rattle.base.specs.Lent.{lent}
 use Rattle.base.specs.Lists.{build-length}
@@ -20,6 +22,7 @@ use Rattle.prices.specs.PriceFile.{file-conditions}
 use Rattle.prices.specs.Tariff.{Tariff, price-file, Given, none, file, conditions-of}
 use Rattle.prices.specs.Offer.{Offer, offer-of}
 use Rattle.prices.specs.Uploads.{upload-conditions}
+use Rattle.log.specs.Sizes.{log-room}
 use Rattle.log.specs.declared.Setup.{Setup}
 use Rattle.log.specs.declared.Header.{Header}
 use Rattle.log.specs.Fields.{request-count, seconds-of, servers-of, length-for}
@@ -36,6 +39,13 @@ use Rattle.text.specs.Answers.{room-verdict}
 use Rattle.report.specs.Sheet.{sheet-of, sheet-verdict}
 use Rattle.text.specs.RefusalText.{refusal-text}
 use Rattle.week.specs.Pages.{page-of, after-week, page-verdict}
+use Rattle.season.specs.declared.Season.{Season}
+use Rattle.season.specs.declared.Tally.{Tally}
+use Rattle.season.specs.ReportText.{report-text}
+use Rattle.season.specs.Steps.{with-bytes, feed-verdict}
+use Rattle.season.specs.Answers.{gathered-in, fed-by, fed}
+use Rattle.season.specs.FeedLaws.{feed-passed}
+use Rattle.season.specs.Pieces.{held-short}
 use Rattle.online.specs.declared.Cache.{Cache}
 use Rattle.online.specs.Conditions.{scan-conditions, running-conditions, close-conditions}
 use Rattle.online.specs.Rules.{zeros}
@@ -225,16 +235,47 @@ page-left t log text =
     room : page-verdict t log (length text) ≡ Passed → (i : ℕ) → nth own i .holds ≡ false
     room e = first-passed own .0 (append-passed (log-conditions (t .table) log) own .0 (otherwise-passed (t .judged) _ e .1) .1)
 
+-- a text that is given whole
+text-left : (printed text : List ℕ) → Left (room-verdict printed (length text)) printed text
+unfolding room-verdict
+text-left printed text =
+    left (room-verdict printed (length text)) printed text
+    (λ e. ltb-false (length text) (length printed) (first-passed (short (length printed) (length text) ∷ []) .0 e 0))
+
 -- the line of a refusal
 pub line-decided : (r : Refusal) (text : ℕ) → Decided (short (length (refusal-text r)) text ∷ []) (room-verdict (refusal-text r) text)
 unfolding room-verdict
 line-decided r text = decided _
 
 pub line-left : (r : Refusal) (text : List ℕ) → Left (room-verdict (refusal-text r) (length text)) (refusal-text r) text
+line-left r text = text-left (refusal-text r) text
+
+-- a piece of a season: 32 where more is said to be held than an unfinished log can have, 31 for the room
+pub feed-decided : (held room : ℕ) → Decided (refuse 32 0 (leb log-room held) ∷ short log-room room ∷ []) (feed-verdict held room)
+unfolding feed-verdict
+feed-decided held room = decided _
+
+pub feed-left : (t : Tariff) (season : Season) (room piece : List ℕ)
+    → Left (feed-verdict (season .held) (length room)) (with-bytes t (gathered-in season room) piece .held) room
+feed-left t season room piece =
+    left (feed-verdict (season .held) (length room)) (with-bytes t (gathered-in season room) piece .held) room
+    (λ e.
+    let (short-of, roomy) = feed-passed (season .held) (length room) e in
+    omega (arith, held-short t (gathered-in season room) piece (omega (arith, length-take-le (season .held) room (omega (arith, short-of, roomy)), short-of)), roomy))
+
+-- a refused piece gives back the season as it was
+pub feed-unchanged : (t : Tariff) (season : Season) (room piece : List ℕ) (r : Refusal) → feed-verdict (season .held) (length room) ≡ Refused r
+    → fed t season room piece .season ≡ season
+unfolding fed-by
+feed-unchanged t season room piece r e = ap (λ (v : Verdict). fed-by v season (with-bytes t (gathered-in season room) piece) .season) e
+
+-- the report of a tally
+pub report-decided : (tally : Tally) (text : ℕ) → Decided (short (length (report-text tally)) text ∷ []) (room-verdict (report-text tally) text)
 unfolding room-verdict
-line-left r text =
-    left (room-verdict (refusal-text r) (length text)) (refusal-text r) text
-    (λ e. ltb-false (length text) (length (refusal-text r)) (first-passed (short (length (refusal-text r)) (length text) ∷ []) .0 e 0))
+report-decided tally text = decided _
+
+pub report-left : (tally : Tally) (text : List ℕ) → Left (room-verdict (report-text tally) (length text)) (report-text tally) text
+report-left tally text = text-left (report-text tally) text
 
 -- a refused scan or close gives back the state as it was, a refused start one of zeros
 pub scan-unchanged : (c : Cache) (id : List ℕ) (second server : ℕ) (r : Refusal) → scan-verdict c id second server ≡ Refused r

@@ -31,8 +31,8 @@ use Rattle.online.specs.Answers.{start-verdict, log-start-verdict}
 use Rattle.online.specs.Passed.{start-refused, start-never, log-start-never}
 use Rattle.bounds.specs.Calls.{Call}
 use Rattle.bounds.specs.Claim.{Claim}
-use Rattle.report.specs.Live.{opened}
-use Rattle.report.specs.LiveLaws.{starts}
+use Rattle.live.specs.Live.{opened}
+use Rattle.live.specs.LiveLaws.{starts}
 use Rattle.planner.specs.Answers.{least-costs}
 use Rattle.guarantees.specs.Quotes.{Within-twice, whole-within}
 use Rattle.guarantees.specs.Demand3.{Planned-best, planned-best, Ready, for-log, online-within-three}

@@ -15,5 +15,6 @@ pub mod Quotes
 pub mod Uploads
 pub mod SheetColumns
 pub mod WeekPage
+pub mod Seasons
 pub mod PriceFiles
 pub mod EndedClass

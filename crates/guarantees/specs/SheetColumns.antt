@@ -7,19 +7,15 @@ use mathlib.Core.Path.{_≡_, refl, sym, ap, _∙_}
 use Prim.Native.Nat.{ℕ, zero, suc, _+_, _-_, _*_, _≤_, _<_}
 use native.Mathlib.Omega.{arith}
 use lib.ListN.{length, getD, replicate}
-use Rattle.base.specs.Lists.{build, build-length, build-at}
+use Rattle.base.specs.Lists.{build, build-at}
 use Rattle.base.specs.declared.Verdict.the-variants.{Passed}
 use Rattle.prices.specs.Prices.{window}
 use Rattle.prices.specs.PriceLaws.{given-priced}
 use Rattle.prices.specs.Tariff.{Tariff, Given}
-use Rattle.log.specs.Fields.{id-of, setup-of, home-of, request-count, seconds-of, servers-of, header-of}
+use Rattle.log.specs.Fields.{id-of, setup-of, request-count, seconds-of, servers-of, header-of}
 use Rattle.log.specs.Conditions.{Accepted}
-use Rattle.log.specs.Contents.{Contents, decode, first-requests, cut}
-use Rattle.log.specs.Cutting.{cut-decodes}
-use Rattle.log.specs.AcceptedLaws.{seconds-length, servers-length}
-use Rattle.model.specs.Requests.{requests}
+use Rattle.log.specs.Contents.{cut}
 use Rattle.model.specs.LogRequests.{requests-in, prices-in, rates-in}
-use Rattle.model.specs.LogRequestLaws.{cut-prices}
 use Rattle.model.specs.Plan.{plan-cost}
 use Rattle.planner.specs.declared.Planned.the-variants as planned′
 use Rattle.planner.specs.Answers.{planned-rows, rows-of-plan, plan-verdict, planned, least-costs}
@@ -27,18 +23,17 @@ use Rattle.online.specs.declared.Scanned.{Scanned}
 use Rattle.online.specs.declared.CloseOutcome.the-variants as close′
 use Rattle.online.specs.Rules.{running}
 use Rattle.online.specs.Answers.{log-start-verdict, close-verdict, scanned, closed-answer}
-use Rattle.bounds.specs.Calls.{Call, run, verdicts, requests-of}
-use Rattle.bounds.specs.Progress.{begun, taken}
+use Rattle.bounds.specs.Calls.{Call, run, verdicts}
 use Rattle.bounds.specs.Claim.{Claim, served, served-count}
 use Rattle.report.specs.declared.Entry.{Entry}
-use Rattle.report.specs.declared.live.Turn.{Turn}
-use Rattle.report.specs.Live.{scans, state-after, live-mark, live-cost, opened, live-marks, running-costs, closing-cost}
-use Rattle.report.specs.LiveLaws.{Runs, starts, goes-on, closes, turn-next}
-use Rattle.report.specs.LiveCalls.{scans-passed, request, scans-taken, requests-taken}
-use Rattle.report.specs.Replies.{outcome-letter, outcome-cost, turn}
+use Rattle.live.specs.declared.Turn.{Turn}
+use Rattle.live.specs.Live.{scans, state-after, calls-of, live-mark, live-cost, opened, live-marks, running-costs, closing-cost}
+use Rattle.live.specs.LiveLaws.{starts, goes-on, closes, turn-next}
+use Rattle.live.specs.LiveClaim.{passed, claim-of, served-is, count-is, least-of}
+use Rattle.live.specs.Replies.{outcome-letter, outcome-cost, turn}
 use Rattle.report.specs.Sheet.{columns-of}
 use Rattle.report.specs.Text.{entry-of}
-use Rattle.guarantees.specs.Demand3.{planned-best, for-log, online-within-three}
+use Rattle.guarantees.specs.Demand3.{planned-best, for-log}
 use Rattle.guarantees.specs.Closes.{close-within, close-at-once}
 
 -- what line k of a log's sheet says, from 1
@@ -71,10 +66,6 @@ least-column t log k a least most =
 
 -- ---- the live columns
 
--- the first k requests of a log, as scan calls with its id after a start with what it says
-abbrev pub calls-of : List ℕ → ℕ → List Call
-calls-of log k = scans (id-of log) (seconds-of log) (servers-of log) k
-
 -- what the call of request k answers, after those before it
 abbrev pub answer-of : Tariff → List ℕ → ℕ → Scanned
 answer-of t log k = scanned (run (opened t log) (calls-of log (k - 1))) (id-of log) (line-of t log k .second) (line-of t log k .server)
@@ -94,33 +85,6 @@ pub record Live-columns (t : Tariff) (log : List ℕ) (k : ℕ) : Type 0 where
   -- so the running cost is at least the least cost that the line has, and at most three times that
   pub no-less : line-of t log k .least ≤ line-of t log k .cost
   pub no-more : line-of t log k .cost ≤ 3 * line-of t log k .least
-
-module _ (t : Tariff) (g : Given t) (log : List ℕ) (k : ℕ) (a : Accepted t log) (h : k ≤ request-count log) where
-  passed : verdicts (opened t log) (calls-of log k) ≡ replicate k Passed
-  unfolding Runs
-  passed = scans-passed (opened t log) (id-of log) (seconds-of log) (servers-of log) k (λ i l. goes-on t (given-priced t g) log a i (omega arith))
-
-  claim-of : Claim (t .table) (header-of log) (opened t log) (calls-of log k)
-  unfolding opened header-of
-  claim-of = online-within-three t g (header-of log) (opened t log) (for-log (starts t (given-priced t g) log a)) (calls-of log k)
-
-  list-of : taken (header-of log) begun (calls-of log k) ≡ build k (request (id-of log) (seconds-of log) (servers-of log))
-  list-of = scans-taken (header-of log) begun (id-of log) (seconds-of log) (servers-of log) k (sym (claim-of .refused) ∙ passed)
-
-  served-is : served (t .table) (header-of log) (opened t log) (calls-of log k) ≡ requests-in (cut k log)
-  unfolding decode first-requests header-of requests-in
-  served-is =
-      ap (requests-of (home-of log)) list-of
-      ∙ requests-taken (home-of log) k (id-of log) (seconds-of log) (servers-of log) (omega (arith, seconds-length log)) (omega (arith, servers-length log))
-      ∙ sym (ap (λ (c : Contents). requests (c .header .home) (c .seconds) (c .servers)) (cut-decodes t log k a h))
-
-  count-is : served-count (t .table) (header-of log) (opened t log) (calls-of log k) ≡ k
-  count-is = ap length list-of ∙ build-length k (request (id-of log) (seconds-of log) (servers-of log))
-
-  -- a claim's least cost is that of the cut log's plan
-  least-of : (x : Claim (t .table) (header-of log) (opened t log) (calls-of log k)) → x .least ≡ plan-cost (rates-in t none (cut k log)) (requests-in (cut k log)) k
-  unfolding prices-in header-of
-  least-of x = x .is-planned ∙ rw (served-is, count-is, cut-prices t log k a h)
 
 module _ (t : Tariff) (g : Given t) (log : List ℕ) (i : ℕ) (a : Accepted t log) (h : i < request-count log) where
   -- the line of request i, from 0
@@ -144,18 +108,18 @@ live-columns t g log (suc i) a least most =
     let cost : getD (running-costs t log) i 0 ≡ live-cost (opened t log) (id-of log) (seconds-of log) (servers-of log) i =
     build-at (request-count log) (live-cost (opened t log) (id-of log) (seconds-of log) (servers-of log)) i 0 most in
     let x = turn-is t g log i a most in
-    let claim = claim-of t g log (suc i) a most in
-    let column : claim .least ≡ line-of t log (suc i) .least = least-of t g log (suc i) a most claim ∙ sym (least-column t log (suc i) a least most .least-is) in
+    let claim = claim-of t (given-priced t g) log (suc i) a most in
+    let column : claim .least ≡ line-of t log (suc i) .least = least-of t (given-priced t g) log (suc i) a most claim ∙ sym (least-column t log (suc i) a least most .least-is) in
     let paid : line-of t log (suc i) .cost ≡ running (run (opened t log) (calls-of log (suc i))) = rw e cost in
     record {
       ready = starts t (given-priced t g) log a;
-      passes = passed t g log (suc i) a most;
+      passes = passed t (given-priced t g) log (suc i) a most;
       mark-is = rw e (mark ∙ sym (ap (λ (y : Turn). y .mark) x));
       cost-is = rw e (cost ∙ sym (ap (λ (y : Turn). y .cost) x));
       running-is = paid;
       claimed = claim;
-      taken-are = served-is t g log (suc i) a most;
-      all-taken = count-is t g log (suc i) a most;
+      taken-are = served-is t (given-priced t g) log (suc i) a most;
+      all-taken = count-is t (given-priced t g) log (suc i) a most;
       no-less = omega (arith, claim .no-less, column, paid);
       no-more = omega (arith, claim .no-more, column, paid);
     }
@@ -184,7 +148,7 @@ close-line t g log a =
     let passes : close-verdict (run (opened t log) (all-calls log)) ≡ Passed = closes t (given-priced t g) log a in
     let w = close-within t g (header-of log) (opened t log) (for-log (starts t (given-priced t g) log a)) (all-calls log) passes in
     let least : w .claimed .least ≡ getD (least-costs t none log) n 0 =
-    least-of t g log n a (omega arith) (w .claimed) ∙ sym (planned-best t none tt log n a (omega arith) .least-is) in
+    least-of t (given-priced t g) log n a (omega arith) (w .claimed) ∙ sym (planned-best t none tt log n a (omega arith) .least-is) in
     record {
       passes = passes;
       answers = w .answers;

@@ -35,7 +35,7 @@ use Rattle.online.specs.declared.ScanOutcome.the-variants as scan
 use Rattle.online.specs.Rules.{running}
 use Rattle.online.specs.Answers.{started, scanned, closed-answer}
 use Rattle.text.specs.Lines.{ascii}
-use Rattle.report.specs.Replies.{close-cost}
+use Rattle.live.specs.Replies.{close-cost}
 use Rattle.report.specs.Output.{output}
 
 -- the requests of a week: what its start is given, seconds and servers

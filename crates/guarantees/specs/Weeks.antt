@@ -35,11 +35,11 @@ use Rattle.online.specs.Conditions.{any-of, server-broken, broken, scan-conditi
 use Rattle.online.specs.Answers.{start-verdict, log-start-verdict, started-by, started, started-for-log, scan-verdict, scanned-by, scanned, mark-outcome, close-verdict, closed-by, closed-answer}
 use Rattle.bounds.specs.Calls.{after as after-call, run}
 use Rattle.text.specs.Decimal.{digits, decimal}
-use Rattle.text.specs.Lines.{ascii, line-end, line}
+use Rattle.text.specs.Lines.{ascii, line-end, line, figure-line}
 use Rattle.text.specs.RefusalText.{list-word, refusal-text, shown}
-use Rattle.report.specs.Text.{heading, entry-line, entry-lines, figure-line, sheet-text, entry-of}
-use Rattle.report.specs.Live.{scans, state-after, live-mark, live-cost, opened, live-marks, running-costs, closing-cost}
-use Rattle.report.specs.Replies.{close-cost}
+use Rattle.report.specs.Text.{heading, entry-line, entry-lines, sheet-text, entry-of}
+use Rattle.live.specs.Live.{scans, state-after, live-mark, live-cost, opened, live-marks, running-costs, closing-cost}
+use Rattle.live.specs.Replies.{close-cost}
 use Rattle.report.specs.Sheet.{columns-of, sheet-of}
 use Rattle.report.specs.Output.{output}
 use Rattle.guarantees.specs.Week.{Given, Week, planned, uploading, checked, logged, tied, printed, as-numbers, answer-numbers, quote-numbers, requests-given, rates-given, live-letter, least-so-far, plan-letters, plan-numbers, costs-from, close-after, letters-from, start-of, log-of, right, all-right}

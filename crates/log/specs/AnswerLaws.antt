@@ -19,7 +19,7 @@ use Rattle.log.specs.Sizes.{most-requests}
 use Rattle.log.specs.Fields.{request-count, length-for, header-of}
 use Rattle.log.specs.Conditions.{offered-conditions, log-conditions, verdict-of, Accepted}
 use Rattle.log.specs.Contents.{Contents, contents-conditions}
-use Rattle.log.specs.Answers.{read-verdict, decoded, write-verdict}
+use Rattle.log.specs.Answers.{read-verdict, header-in, decoded, write-verdict}
 use Rattle.log.specs.AcceptedLaws.{accepted-sound, writable-proper}
 use Rattle.log.specs.Ranges.{Proper}
 use lib.ListN.{length}
@@ -79,6 +79,11 @@ read-long t s a b e f = ap (otherwise (t .judged)) (first-append (log-conditions
     go (Refused r) y v z = refl
     go Passed y (Refused r) z = refl
     go Passed y Passed z = two (rw y z)
+
+-- an accepted log has all bytes of its header
+pub accepted-header : (t : Tariff) (s : List ℕ) → Accepted t s → header-in s ≡ header-of s
+unfolding header-in length-for
+accepted-header t s a = rw (le-ltb (length s) 40 (omega (arith, accepted-sound t s a .length-is)))
 
 -- a reader's answer that has a number of requests: the log is accepted, and has as many
 pub decoded-requests : (v : Verdict) (log : List ℕ) (d : Decoded) (n : ℕ) → d ≡ decoded v log → d .outcome ≡ read.Requests n

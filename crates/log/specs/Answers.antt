@@ -1,7 +1,9 @@
 -- What the reader and the writer answer, and what their lent lists hold at the end. Assumes nothing.
 use mathlib.Core.List.{List, [], _∷_, _++_}
 use Prim.Native.Nat.{ℕ}
+use lib.Dec.{ltb}
 use lib.ListN.{length, replicate}
+use Rattle.base.specs.Choice.{pick}
 use Rattle.base.specs.Refusals.{first, otherwise, short}
 use Rattle.base.specs.Lent.{lent}
 use Rattle.base.specs.declared.Verdict.{Verdict}
@@ -25,6 +27,10 @@ read-verdict t s seconds servers =
 -- the header of a refused log
 unfoldable pub no-header : Header
 no-header = record { «class» = 0; «server_count» = 0; home = 0; id = replicate 16 0 }
+
+-- what any bytes say of their file: zeros where they are fewer than 40
+unfoldable pub header-in : List ℕ → Header
+header-in s = pick (ltb (length s) 40) no-header (header-of s)
 
 -- the reader's answer by its verdict: header and request count, or the refusal
 unfoldable pub decoded : Verdict → List ℕ → Decoded

@@ -4,9 +4,9 @@ use mathlib.Core.List.{List, [], _∷_, _++_}
 use mathlib.Core.Path.{_≡_, refl, ap, sym, _∙_}
 use Prim.Native.Nat.{ℕ, suc, _+_, _*_, _<_}
 use lib.Dec.{eqb}
-use lib.ListN.{getD}
+use lib.ListN.{getD, length}
 use Rattle.base.specs.Refusals.{Condition, refuse, first, or-else, from, each, otherwise}
-use Rattle.base.specs.RefusalLaws.{each-suc, first-append, from-otherwise, otherwise-assoc}
+use Rattle.base.specs.RefusalLaws.{each-suc, first-append, from-append, from-otherwise, otherwise-assoc}
 use Rattle.base.specs.declared.Verdict.{Verdict}
 use Rattle.base.specs.declared.Verdict.the-variants.{Passed, Refused}
 use Rattle.base.specs.Bytes.{le16, le32}
@@ -16,8 +16,8 @@ use Rattle.prices.specs.Tariff.{Tariff, tariff}
 use Rattle.prices.specs.Offer.{Offer}
 use Rattle.checksum.specs.Sum.{sum-of}
 use Rattle.log.specs.declared.Setup.{Setup}
-use Rattle.log.specs.Fields.{server-count, request-count, seconds-of, servers-of, written-sum}
-use Rattle.log.specs.Conditions.{setup-conditions, offered-conditions, form-conditions, header-conditions, before, request-check, request-conditions, log-conditions, verdict-of, Accepted}
+use Rattle.log.specs.Fields.{server-count, request-count, seconds-of, servers-of, total-length, written-sum}
+use Rattle.log.specs.Conditions.{setup-conditions, offered-conditions, head-conditions, form-conditions, header-conditions, before, request-check, request-conditions, log-conditions, head-verdict, verdict-of, Accepted}
 
 -- a test that fails adds nothing
 or-else-false : (v : Verdict) (number place : ℕ) → or-else v (refuse number place false) ≡ v
@@ -60,6 +60,24 @@ pub list-found : (count : ℕ) (seconds servers : List ℕ) (i earlier place : �
     → v ≡ first (request-check count (getD servers i 0) (getD seconds i 0) earlier place) → first (request-conditions count seconds servers i) ≡ v
 unfolding request-conditions
 list-found count seconds servers i earlier place v p q e = rw (← p, ← q) (sym e)
+
+-- one condition more
+one-more : (w : Verdict) (c : Condition) → from w (c ∷ []) ≡ or-else w c
+unfolding from
+one-more w c = refl
+
+-- 1 to 8, one after the other
+pub head-parts : (v : Verdict) (table : List Prices) (s : List ℕ) → from v (head-conditions table s) ≡ head-verdict (tariff v table) s
+unfolding head-verdict
+head-parts v table s = from-otherwise v (head-conditions table s)
+
+-- 1 to 9: the header's verdict, then 9
+pub form-parts : (v : Verdict) (table : List Prices) (s : List ℕ)
+    → from v (form-conditions table s) ≡ or-else (head-verdict (tariff v table) s) (refuse 9 0 (not (eqb (length s) (total-length s))))
+form-parts v table s =
+    let nine = refuse 9 0 (not (eqb (length s) (total-length s))) in
+    from-append v (head-conditions table s) (nine ∷ []) ∙ one-more (from v (head-conditions table s)) nine
+    ∙ ap (λ (w : Verdict). or-else w nine) (head-parts v table s)
 
 -- the verdict part by part: 1 to 9, 10, then the requests
 pub verdict-parts : (v : Verdict) (table : List Prices) (s : List ℕ)

@@ -43,9 +43,9 @@ unfoldable pub offered-conditions : Offer → Setup → List Condition
 offered-conditions o s = class-condition (o .tariff .table) s ∷ refuse 43 0 (o .ended (s .«class»)) ∷ servers-conditions s
 
 -- 1 under 40 bytes; 2 version not 1; 3 to 5; 6 byte 5 not zero; 7 request count above 2,048; 8 an offset or the total not as the
--- format says; 9 file length not the total
-abbrev pub form-conditions : List Prices → List ℕ → List Condition
-form-conditions table s =
+-- format says
+abbrev pub head-conditions : List Prices → List ℕ → List Condition
+head-conditions table s =
     refuse 1 0 (ltb (length s) 40)
     ∷ refuse 2 0 (not (eqb (version s) 1))
     ∷ (setup-conditions table (setup-of s)
@@ -54,8 +54,11 @@ form-conditions table s =
     ∷ refuse 8 0
     (either (not (eqb (requests-offset s) 40))
     (either (not (eqb (id-offset s) 24)) (not (eqb (total-length s) (length-for (request-count s))))))
-    ∷ refuse 9 0 (not (eqb (length s) (total-length s)))
     ∷ []))
+
+-- 1 to 8, then 9 file length not the total
+abbrev pub form-conditions : List Prices → List ℕ → List Condition
+form-conditions table s = head-conditions table s ++ (refuse 9 0 (not (eqb (length s) (total-length s))) ∷ [])
 
 -- 1 to 9, then 10 the sum
 unfoldable pub header-conditions : List Prices → List ℕ → List Condition
@@ -84,6 +87,10 @@ unfoldable pub log-conditions : List Prices → List ℕ → List Condition
 log-conditions table s =
     header-conditions table s
     ++ each (request-conditions (server-count s) (seconds-of s) (servers-of s)) (request-count s)
+
+-- what a log's header is answered: what its price file is, else refused by the first of 1 to 8 that holds
+unfoldable pub head-verdict : Tariff → List ℕ → Verdict
+head-verdict t s = otherwise (t .judged) (first (head-conditions (t .table) s))
 
 -- what the bytes of a log are answered: what its price file is, else refused by the first condition that holds
 unfoldable pub verdict-of : Tariff → List ℕ → Verdict

@@ -74,7 +74,9 @@ log-never t s j =
     otherwise-never 43 (t .judged) _ j
     (joined
     (joined
+    (joined
     (other (λ z. omega arith) (other (λ z. omega arith) (joined (setup-without (t .table) (setup-of s))
-    (other (λ z. omega arith) (other (λ z. omega arith) (other (λ z. omega arith) (other (λ z. omega arith) empty)))))))
+    (other (λ z. omega arith) (other (λ z. omega arith) (other (λ z. omega arith) empty))))))
+    (other (λ z. omega arith) empty))
     (other (λ z. omega arith) empty))
     (requests-without (server-count s) (seconds-of s) (servers-of s) (request-count s)))

@@ -9,12 +9,11 @@ pub mod Answers
 -- What is proved of it.
 pub mod ConditionLaws
 pub mod RequestLaws
-pub mod ContentsLaws
 pub mod AcceptedLaws
 pub mod EncodeLaws
 pub mod RoundTrip
 pub mod Cutting
+pub mod HeadLaws
 pub mod LongInput
 pub mod AnswerLaws
 pub mod EndedLaws
-pub mod WriteLaws

@@ -1,20 +1,17 @@
-// The conditions on a log and on what is to be written, in the order of 01 and 02. Each comes after what the price file was answered.
+// The conditions on a log, in the order of 01 and 02. Each comes after what the price file was answered.
 ghost use mathlib.Core.Path.{_≡_};
 ghost use mathlib.Core.Bool.{not};
-ghost use Prim.Native.Nat.{suc, _+_, _*_, _<_, _≤_};
+ghost use Prim.Native.Nat.{suc};
 ghost use lib.Dec.{leb, ltb, eqb};
 ghost use lib.ListN.{length};
 ghost use Rattle.base.specs.Choice.{either};
-ghost use Rattle.base.specs.Refusals.{first, otherwise, each, from};
+ghost use Rattle.base.specs.Refusals.{first, each, from};
 ghost use Rattle.prices.specs.PriceFile.{table-in};
 ghost use Rattle.prices.specs.Tariff.{tariff};
 ghost use Rattle.prices.specs.Offer.{offer};
 ghost use Rattle.checksum.specs.Sum.{sum-of};
-ghost use Rattle.log.specs.Sizes.{most-requests};
 ghost use Rattle.log.specs.Fields.{server-count, request-count, requests-offset, id-offset, total-length, written-sum, length-for, seconds-of, servers-of};
-ghost use Rattle.log.specs.Conditions.{setup-conditions, offered-conditions, form-conditions, request-check, request-conditions, verdict-of};
-ghost use Rattle.log.specs.Contents.{contents, contents-conditions};
-use crate::Header;
+ghost use Rattle.log.specs.Conditions.{setup-conditions, offered-conditions, form-conditions, request-check, request-conditions, head-verdict, verdict-of};
 use crate::MOST_REQUESTS;
 use crate::Setup;
 use crate::requests::request_at;
@@ -24,11 +21,10 @@ use base::bytes::at;
 use base::bytes::at16;
 use base::bytes::at32;
 use base::refusals::or_else;
-use base::widths::size_from_u16;
 use base::widths::size_from_u32;
 use base::widths::u16_from_u8;
 use base::widths::u32_from_u16;
-use base::widths::u64_from_size;
+use base::widths::u64_from_u16;
 use checksum::sum;
 use prices::class_count;
 
@@ -91,9 +87,9 @@ fn total_differs(log: &[u8]) -> bool
     log.len() != size_from_u32(at32(log, 16))
 }
 
-// 1 to 9.
-fn form_fault(v: Verdict, prices: &[u8], log: &[u8]) -> Verdict
-    ensures { λ r. ⌜ r ≡ from v (form-conditions (table-in (now (prices .entry))) (now (log .entry))) ⌝ }
+// 1 to 8, which the header alone decides.
+pub fn head_fault(v: Verdict, prices: &[u8], log: &[u8]) -> Verdict
+    ensures { λ r. ⌜ r ≡ head-verdict (tariff v (table-in (now (prices .entry)))) (now (log .entry)) ⌝ }
 {
     let n = at16(log, 6);
     let v = or_else(v, log.len() < 40, 1, 0);
@@ -106,7 +102,14 @@ fn form_fault(v: Verdict, prices: &[u8], log: &[u8]) -> Verdict
     let v = setup_fault(v, prices, setup);
     let v = or_else(v, at(log, 5) != 0, 6, 0);
     let v = or_else(v, MOST < n, 7, 0);
-    let v = or_else(v, misplaced(log, n), 8, 0);
+    or_else(v, misplaced(log, n), 8, 0)
+}
+
+// 1 to 9.
+fn form_fault(v: Verdict, prices: &[u8], log: &[u8]) -> Verdict
+    ensures { λ r. ⌜ r ≡ from v (form-conditions (table-in (now (prices .entry))) (now (log .entry))) ⌝ }
+{
+    let v = head_fault(v, prices, log);
     or_else(v, total_differs(log), 9, 0)
 }
 
@@ -128,7 +131,7 @@ fn second_outside(second: u32) -> bool
 }
 
 // 11 to 13 for one request.
-fn request_fault(count: u8, server: u16, second: u32, earlier: u32, place: u64) -> Verdict
+pub fn request_fault(count: u8, server: u16, second: u32, earlier: u32, place: u64) -> Verdict
     ensures { λ r. ⌜ r ≡ first (request-check count server second earlier place) ⌝ }
 {
     let v = or_else(Verdict::Passed, u16_from_u8(count) <= server, 11, place);
@@ -137,11 +140,10 @@ fn request_fault(count: u8, server: u16, second: u32, earlier: u32, place: u64) 
 }
 
 // Requests are counted from 1.
-fn place(i: usize) -> u64
-    requires { ⌜ i < 65536 ⌝ }
+pub fn place(i: u16) -> u64
     ensures { λ r. ⌜ r ≡ suc i ⌝ }
 {
-    u64_from_size(i) + 1
+    u64_from_u16(i) + 1
 }
 
 // 11 to 13 for each request of a log.
@@ -156,13 +158,7 @@ fn requests_fault(log: &[u8]) -> Verdict
     while i < n {
         let request = request_at(log, i);
         let second = request.second;
-        let v = request_fault(
-            count,
-            request.server,
-            second,
-            earlier,
-            place(size_from_u16(i)),
-        );
+        let v = request_fault(count, request.server, second, earlier, place(i));
         if let Verdict::Refused(r) = v {
             return Verdict::Refused(r);
         }
@@ -187,58 +183,4 @@ pub fn verdict(v: Verdict, prices: &[u8], log: &[u8]) -> Verdict
         });
     }
     requests_fault(log)
-}
-
-// More than 2,048 requests, or lists of unequal length.
-fn lengths_outside(seconds: usize, servers: usize) -> bool
-    ensures { λ r. ⌜ r ≡ either (ltb most-requests seconds) (not (eqb seconds servers)) ⌝ }
-{
-    if MOST_REQUESTS < seconds {
-        return true;
-    }
-    seconds != servers
-}
-
-// 11 to 13 for each request of two lists of one length.
-fn lists_fault(count: u8, seconds: &[u32], servers: &[u16]) -> Verdict
-    requires { ⌜ (length (now seconds) ≡ length (now servers)) × (length (now seconds) ≤ most-requests) ⌝ }
-    ensures { λ r. ⌜ r ≡ first (each (request-conditions count (now (seconds .entry)) (now (servers .entry))) (length (now (seconds .entry)))) ⌝ }
-{
-    let mut earlier: u32 = 0;
-    let mut i: usize = 0;
-    while i < seconds.len() {
-        let second = seconds[i];
-        let v = request_fault(count, servers[i], second, earlier, place(i));
-        if let Verdict::Refused(r) = v {
-            return Verdict::Refused(r);
-        }
-        earlier = second;
-        i += 1;
-    }
-    Verdict::Passed
-}
-
-// What the writer answers to a header and two lists.
-pub fn contents_fault(
-    v: Verdict,
-    prices: &[u8],
-    ended: bool,
-    header: Header,
-    seconds: &[u32],
-    servers: &[u16],
-) -> Verdict
-    ensures { λ r. ⌜ r ≡ otherwise v (first (contents-conditions (offer (tariff v (table-in (now (prices .entry)))) (λ class. ended)) (contents header (now (seconds .entry)) (now (servers .entry))))) ⌝ }
-{
-    let count = header.server_count;
-    let setup = Setup {
-        class: header.class,
-        server_count: count,
-        home: header.home,
-    };
-    let v = offered_fault(v, prices, ended, setup);
-    let v = or_else(v, lengths_outside(seconds.len(), servers.len()), 7, 0);
-    if let Verdict::Refused(r) = v {
-        return Verdict::Refused(r);
-    }
-    lists_fault(count, seconds, servers)
 }

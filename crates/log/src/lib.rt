@@ -1,22 +1,22 @@
-// The log format of 01's 'The log': read, write.
+// The log format of 01's 'The log', and its reader.
 mod conditions;
 mod reader;
 mod requests;
-mod writer;
 
 use base::Refusal;
+pub use conditions::head_fault;
 pub use conditions::offered_fault;
+pub use conditions::place;
+pub use conditions::request_fault;
 pub use conditions::setup_fault;
 pub use conditions::verdict;
+pub use reader::header_in;
 pub use reader::read;
 pub use reader::read_by;
 pub use reader::read_with;
 pub use requests::last_second;
 pub use requests::request_in;
 pub use requests::request_place;
-pub use writer::write;
-pub use writer::write_by;
-pub use writer::write_with;
 
 // What a file is served under: price class, number of servers (01: stations), home server.
 pub struct Setup {
@@ -62,7 +62,7 @@ pub enum Written {
 pub const MOST_REQUESTS: usize = 2048;
 
 // Room for any log.
-const LOG_ROOM: usize = 40 + 6 * MOST_REQUESTS;
+pub const LOG_ROOM: usize = 40 + 6 * MOST_REQUESTS;
 
 // How many bytes of an input are read at most: one more than the longest log has.
 pub const LOG_LIMIT: usize = LOG_ROOM + 1;

@@ -10,7 +10,7 @@ ghost use Rattle.base.specs.Lists.{build};
 ghost use Rattle.prices.specs.PriceFile.{table-in};
 ghost use Rattle.prices.specs.Tariff.{tariff, built-in, price-file};
 ghost use Rattle.log.specs.Fields.{id-of, header-of};
-ghost use Rattle.log.specs.Answers.{no-header, read-verdict, decoded, seconds-left, servers-left};
+ghost use Rattle.log.specs.Answers.{no-header, header-in, read-verdict, decoded, seconds-left, servers-left};
 use crate::Decoded;
 use crate::Header;
 use crate::ReadOutcome;
@@ -75,6 +75,16 @@ fn blank() -> Header
         home: 0,
         id: [0u8; 16],
     }
+}
+
+// What any bytes say of their file: zeros where they are fewer than 40.
+pub fn header_in(log: &[u8]) -> Header
+    ensures { λ r. ⌜ r ≡ header-in (now (log .entry)) ⌝ }
+{
+    if log.len() < 40 {
+        return blank();
+    }
+    header(log)
 }
 
 // The seconds and servers of n requests, into the fronts of two lists.

@@ -9,7 +9,7 @@ use Rattle.base.specs.declared.Verdict.the-variants.{Passed}
 use Rattle.online.specs.declared.Cache.{Cache}
 use Rattle.bounds.specs.Calls.{scan, run}
 use Rattle.report.specs.declared.Entry.{Entry}
-use Rattle.report.specs.Live.{scans, state-after, live-mark, live-cost}
+use Rattle.live.specs.Live.{scans, state-after, live-mark, live-cost}
 use Rattle.report.specs.Text.{Columns, entry-of, sheet-text}
 
 abbrev pub Alike : List ℕ → List ℕ → Type 0

@@ -1,15 +1,12 @@
 -- Crate report: the sheet.
 -- What a reader believes: the definitions.
 pub mod Text
-pub mod Live
 pub mod Sheet
 pub mod Output
 pub mod Sizes
 pub mod Replies
 -- What is proved of them.
 pub mod TextLaws
-pub mod LiveLaws
-pub mod LiveCalls
 pub mod Alike
 pub mod SheetLaws
 pub mod SheetLength

@@ -10,7 +10,7 @@ use Rattle.prices.specs.Tariff.{Tariff}
 use Rattle.log.specs.Fields.{request-count, seconds-of, servers-of}
 use Rattle.log.specs.Conditions.{log-conditions}
 use Rattle.planner.specs.Answers.{marks-of, planned-rows, least-costs}
-use Rattle.report.specs.Live.{live-marks, running-costs, closing-cost}
+use Rattle.live.specs.Live.{live-marks, running-costs, closing-cost}
 use Rattle.report.specs.Text.{Columns, columns, entry-of, sheet-text}
 
 -- seconds, servers, plan marks over the whole log, online marks, least and running costs of the requests so far

@@ -19,9 +19,9 @@ use Rattle.online.specs.Answers.{closed-by, closed-answer}
 use Rattle.planner.specs.Answers.{marks-of, planned-rows, least-costs}
 use Rattle.text.specs.Answers.{room-verdict}
 use Rattle.report.specs.Alike.{Alike, state-alike, mark-alike, cost-alike, sheet-alike}
-use Rattle.report.specs.Live.{state-after, live-mark, live-cost, live-marks, running-costs, closing-cost, opened}
-use Rattle.report.specs.LiveLaws.{Runs, goes-on, closes}
-use Rattle.report.specs.Replies.{close-cost}
+use Rattle.live.specs.Live.{state-after, live-mark, live-cost, live-marks, running-costs, closing-cost, opened}
+use Rattle.live.specs.LiveLaws.{Runs, goes-on, closes}
+use Rattle.live.specs.Replies.{close-cost}
 use Rattle.report.specs.Sheet.{columns-of, sheet-of, sheet-verdict}
 use Rattle.report.specs.Text.{columns, entry-of, sheet-text}
 

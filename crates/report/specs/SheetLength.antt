@@ -23,8 +23,8 @@ use Rattle.planner.specs.RoomLaws.{few-rows}
 use Rattle.online.specs.Widths.{running-fits}
 use Rattle.online.specs.ClosingLaws.{closing-fits}
 use Rattle.report.specs.declared.Entry.{Entry}
-use Rattle.report.specs.Live.{live-cost, opened, running-costs, closing-cost}
-use Rattle.report.specs.LiveLaws.{intact-after}
+use Rattle.live.specs.Live.{live-cost, opened, running-costs, closing-cost}
+use Rattle.live.specs.LiveLaws.{intact-after}
 use Rattle.report.specs.Sizes.{entry-room, sheet-room}
 use Rattle.report.specs.Sheet.{columns-of, sheet-of}
 use Rattle.report.specs.Text.{entry-of, entry-line, entry-lines}

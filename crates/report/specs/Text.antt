@@ -3,7 +3,7 @@ use mathlib.Core.List.{List, [], _∷_, _++_}
 use Prim.Native.Nat.{ℕ, zero, suc}
 use lib.ListN.{getD}
 use Rattle.text.specs.Decimal.{decimal}
-use Rattle.text.specs.Lines.{ascii, line}
+use Rattle.text.specs.Lines.{ascii, line, figure-line}
 use Rattle.report.specs.declared.Entry.{Entry}
 
 -- the first line
@@ -28,14 +28,10 @@ unfoldable pub entry-lines : (ℕ → Entry) → ℕ → List ℕ
 entry-lines e zero = []
 entry-lines e (suc k) = entry-lines e k ++ entry-line (e k)
 
--- a line with a word and a number
-unfoldable pub figure-line : List ℕ → ℕ → List ℕ
-figure-line word n = line (word ∷ decimal n ∷ [])
-
 -- the whole sheet of n requests: the last lines give the number of the plan's rows, and the closing cost (02's Req 02)
 unfoldable pub sheet-text : (ℕ → Entry) → ℕ → ℕ → ℕ → List ℕ
 sheet-text e n rows closing =
-    heading ++ (entry-lines e n ++ (figure-line (ascii "rows") rows ++ figure-line (ascii "close") closing))
+    heading ++ (entry-lines e n ++ (figure-line (ascii "rows") (rows ∷ []) ++ figure-line (ascii "close") (closing ∷ [])))
 
 -- ---- its columns, one list for each
 

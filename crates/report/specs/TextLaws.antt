@@ -1,17 +1,18 @@
 -- The lines of the sheet as they are written, part by part, and how long they are.
 use mathlib.Core.Path.{_≡_, sym}
-use mathlib.Core.List.{List}
-use Prim.Native.Nat.{ℕ, suc, _+_, _*_, _^_, _≤_, _<_}
+use mathlib.Core.List.{[], _∷_}
+use Prim.Native.Nat.{ℕ, suc, _*_, _^_, _≤_, _<_}
 use native.Mathlib.Omega.{arith}
 use lib.ListN.{length, length-append}
 use Rattle.log.specs.Sizes.{most-requests}
 use Rattle.text.specs.DecimalLaws.{decimal-length}
-use Rattle.text.specs.Lines.{ascii, line, line-end}
+use Rattle.text.specs.LineLaws.{figure-length}
+use Rattle.text.specs.Lines.{ascii, line, line-end, figure-line}
 use Rattle.text.specs.Page.{Page, added}
 use Rattle.text.specs.PageLaws.{added-append}
 use Rattle.report.specs.declared.Entry.{Entry}
 use Rattle.report.specs.Sizes.{entry-room, sheet-room}
-use Rattle.report.specs.Text.{entry-line, entry-lines, heading, figure-line, sheet-text}
+use Rattle.report.specs.Text.{entry-line, entry-lines, heading, sheet-text}
 
 -- a request's line fits its room
 pub entry-length : (e : Entry) → e .number < 2 ^ 64 → e .second < 2 ^ 64 → e .server < 2 ^ 64 → e .least < 2 ^ 64 → e .cost < 2 ^ 64
@@ -38,21 +39,16 @@ pub lines-longer : (e : ℕ → Entry) (k : ℕ) → length (entry-lines e k) �
 unfolding entry-lines
 lines-longer e k h l = simp length-append (omega arith)
 
--- a line with a word has at most 22 bytes more than the word
-figure-length : (word : List ℕ) (n : ℕ) → n < 2 ^ 64 → length (figure-line word n) ≤ length word + 22
-unfolding figure-line line line-end ascii
-figure-length word n h = simp length-append (omega (arith, decimal-length 19 n (omega arith)))
-
 -- the sheet of any log's requests fits its room
 pub sheet-length : (e : ℕ → Entry) (n rows closing : ℕ) → n ≤ most-requests → rows < 2 ^ 64 → closing < 2 ^ 64
     → length (entry-lines e n) ≤ entry-room * n → length (sheet-text e n rows closing) ≤ sheet-room
 unfolding sheet-text heading ascii
 sheet-length e n rows closing h l c k =
-    simp length-append (omega (arith, figure-length (ascii "rows") rows l, figure-length (ascii "close") closing c))
+    simp length-append (omega (arith, figure-length (ascii "rows") (rows ∷ []) (l, tt), figure-length (ascii "close") (closing ∷ []) (c, tt)))
 
 -- its parts
 pub sheet-parts : (e : ℕ → Entry) (n rows closing : ℕ) (p : Page)
-    → added (figure-line (ascii "close") closing) (added (figure-line (ascii "rows") rows) (added (entry-lines e n) (added heading p)))
+    → added (figure-line (ascii "close") (closing ∷ [])) (added (figure-line (ascii "rows") (rows ∷ [])) (added (entry-lines e n) (added heading p)))
     ≡ added (sheet-text e n rows closing) p
 unfolding sheet-text
 sheet-parts e n rows closing p = simp added-append

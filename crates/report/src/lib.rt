@@ -1,6 +1,6 @@
 // The sheet of 01's 'The sheet', as bytes in a text that is lent.
+mod columns;
 mod lines;
-mod live;
 mod sheets;
 
 use log::MOST_REQUESTS;

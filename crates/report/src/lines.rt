@@ -5,7 +5,7 @@ ghost use lib.ListN.{length, take};
 ghost use Rattle.log.specs.Sizes.{most-requests};
 ghost use Rattle.text.specs.Page.{page, added};
 ghost use Rattle.report.specs.Sizes.{entry-room, sheet-room};
-ghost use Rattle.report.specs.Text.{heading, entry-line, entry-lines, figure-line, sheet-text, columns, entry-of};
+ghost use Rattle.report.specs.Text.{heading, entry-line, entry-lines, sheet-text, columns, entry-of};
 use crate::Entry;
 use base::widths::u64_from_size;
 use base::widths::u64_from_u16;
@@ -14,6 +14,7 @@ use text::put::put;
 use text::put::put_byte;
 use text::put::put_field;
 use text::put::put_letter;
+use text::put::put_line;
 use text::put::put_number;
 
 // The first line.
@@ -36,15 +37,6 @@ pub fn put_entry(text: &mut [u8], at: usize, entry: Entry) -> usize
     let f = put_field(text, e, entry.least);
     let g = put_field(text, f, entry.cost);
     put_byte(text, g, b'\n')
-}
-
-// A line with a word and a number.
-pub fn put_figure(text: &mut [u8], at: usize, word: &[u8], n: u64) -> usize
-    ensures { λ r. ⌜ page r (now (text .exit)) ≡ added (figure-line (now (word .entry)) n) (page at (now (text .entry))) ⌝ }
-{
-    let a = put(text, at, word);
-    let b = put_field(text, a, n);
-    put_byte(text, b, b'\n')
 }
 
 // What the line of request i, from 0, says.
@@ -115,6 +107,6 @@ pub(crate) fn put_lines(
 {
     let a = put_heading(text, 0);
     let b = put_entries(text, a, seconds, servers, plan, live, least, costs, n);
-    let c = put_figure(text, b, b"rows", rows);
-    put_figure(text, c, b"close", closing)
+    let c = put_line(text, b, b"rows", &[rows]);
+    put_line(text, c, b"close", &[closing])
 }

@@ -18,12 +18,12 @@ ghost use Rattle.report.specs.Sheet.{sheet-of, sheet-verdict, text-left}
 ghost use Rattle.report.specs.Replies.{rows-planned};
 ghost use Rattle.report.specs.Alike.{Alike};
 use crate::SHEET_ROOM;
+use crate::columns::give_live;
 use crate::lines::put_lines;
-use crate::live::closing;
-use crate::live::give_live;
-use crate::live::open;
 use base::widths::size_from_u16;
 use base::widths::u64_from_u32;
+use live::closing;
+use live::open;
 use log::Decoded;
 use log::Header;
 use log::MOST_REQUESTS;

@@ -92,7 +92,7 @@ fn written(seconds: [u32; 2], servers: [u16; 2], n: usize) -> [u8; 52] {
     if 2 < n {
         return log;
     }
-    log::write(header(), &seconds[..n], &servers[..n], &mut log);
+    writer::write(header(), &seconds[..n], &servers[..n], &mut log);
     log
 }
 

@@ -1,9 +1,13 @@
-// `refusal_line` and `sheet` into a text one byte too short, just long enough and three bytes longer. The text is the front of 128 bytes
+// `refusal_line`, `sheet` and a season's `summary` into a text one byte too short, just long enough and three bytes longer. The text is the front of 128 bytes
 // full of noise. A line gives the case and the text's length; then the answer, the place up to which there are zeros after it, and the
-// place up to which there is noise after these; then what was printed, a sheet on lines of its own.
+// place up to which there is noise after these; then what was printed, a sheet or a report on lines of its own. Last a piece of no bytes for a season
+// that is said to hold so many bytes in a room of so many: how many it holds then, or the refusal.
 use base::Refusal;
+use base::Verdict;
 use libc::STDOUT_FILENO;
 use log::Header;
+use log::LOG_LIMIT;
+use season::Season;
 use text::Printed;
 
 fn print(text: &[u8]) {
@@ -163,7 +167,7 @@ fn header() -> Header {
 // The log of document 01's case C.
 fn case_c() -> [u8; 64] {
     let mut log = [0u8; 64];
-    log::write(header(), &[1u32, 2, 11, 12], &[1u16, 2, 1, 0], &mut log);
+    writer::write(header(), &[1u32, 2, 11, 12], &[1u16, 2, 1, 0], &mut log);
     log
 }
 
@@ -171,7 +175,7 @@ fn no_request() -> [u8; 40] {
     let mut log = [0u8; 40];
     let seconds = [0u32; 0];
     let servers = [0u16; 0];
-    log::write(header(), &seconds, &servers, &mut log);
+    writer::write(header(), &seconds, &servers, &mut log);
     log
 }
 
@@ -196,9 +200,69 @@ fn sheet_cases() {
     sheet_case(b"no request", &empty, 60);
 }
 
+fn report_case(room: usize) {
+    let mut text = noisy();
+    if 128 < room {
+        return;
+    }
+    print(b"no logs in");
+    print_number(room as u64);
+    let printed = season::summary(season::begin(), &mut text[..room]);
+    show(printed, &text, b"\n");
+}
+
+fn show_held(held: u64) {
+    print(b": holds");
+    print_number(held);
+    print(b"\n");
+}
+
+fn show_unfed(r: Refusal) {
+    print(b": refused");
+    print_number(r.number as u64);
+    print_number(r.place);
+    print(b"\n");
+}
+
+fn feed_case(held: u64, length: usize) {
+    let mut room = [0u8; LOG_LIMIT];
+    if LOG_LIMIT < length {
+        return;
+    }
+    print(b"held");
+    print_number(held);
+    print(b" in");
+    print_number(length as u64);
+    let season = Season {
+        tally: season::begin(),
+        held,
+    };
+    let piece = [0u8; 0];
+    let fed = season::feed(season, &mut room[..length], &piece);
+    let next = fed.season;
+    let verdict = fed.verdict;
+    match verdict {
+        Verdict::Passed => show_held(next.held),
+        Verdict::Refused(r) => show_unfed(r),
+    }
+}
+
+fn season_cases() {
+    report_case(28);
+    report_case(29);
+    report_case(32);
+    feed_case(12327, 12328);
+    feed_case(12328, 12328);
+    feed_case(12328, 12327);
+    feed_case(0, 12327);
+    feed_case(0, 12328);
+    feed_case(0, 12329);
+}
+
 fn main() {
     for k in 0..16 {
         line_cases(LINES[k]);
     }
     sheet_cases();
+    season_cases();
 }

@@ -9,6 +9,7 @@ pub mod Answers
 pub mod DecimalLaws
 pub mod AlignedLaws
 pub mod PageLaws
+pub mod LineLaws
 pub mod RefusalTextLaws
 pub mod AnswerLaws
 pub mod PrintedLaws

@@ -1,5 +1,5 @@
 -- A printed line: fields parted by one space, and a newline; and a number that fills its columns. Assumes nothing.
-use mathlib.Core.List.{List, [], _∷_, _++_}
+use mathlib.Core.List.{List, [], _∷_, _++_, map}
 use Prim.Native.Nat.{ℕ, _-_}
 use Prim.Native.Char.{code}
 use Prim.Native.String.{String}
@@ -21,6 +21,10 @@ line-end (f ∷ fs) = ascii " " ++ (f ++ line-end fs)
 unfoldable pub line : List (List ℕ) → List ℕ
 line [] = ascii "\n"
 line (f ∷ fs) = f ++ line-end fs
+
+-- a line with a word and numbers
+unfoldable pub figure-line : List ℕ → List ℕ → List ℕ
+figure-line word ns = line (word ∷ map decimal ns)
 
 -- a number right-aligned in so many columns, with spaces (32) before it; one with more digits stands as it is
 unfoldable pub aligned : ℕ → ℕ → List ℕ

@@ -5,7 +5,7 @@ ghost use Prim.Native.Nat.{_+_, _-_, _<_};
 ghost use lib.ListN.{replicate};
 ghost use Rattle.text.specs.Decimal.{decimal};
 ghost use Rattle.text.specs.Page.{page, add-byte, added};
-ghost use Rattle.text.specs.Lines.{ascii, aligned};
+ghost use Rattle.text.specs.Lines.{ascii, aligned, figure-line};
 
 // One byte.
 pub fn put_byte(text: &mut [u8], at: usize, b: u8) -> usize
@@ -64,6 +64,19 @@ pub fn put_letter(text: &mut [u8], at: usize, b: u8) -> usize
 {
     let to = put_byte(text, at, b' ');
     put_byte(text, to, b)
+}
+
+// A line with a word and numbers.
+pub fn put_line(text: &mut [u8], at: usize, word: &[u8], numbers: &[u64]) -> usize
+    ensures { λ r. ⌜ page r (now (text .exit)) ≡ added (figure-line (now (word .entry)) (now (numbers .entry))) (page at (now (text .entry))) ⌝ }
+{
+    let mut to = put(text, at, word);
+    let mut next: usize = 0;
+    while next < numbers.len() {
+        to = put_field(text, to, numbers[next]);
+        next += 1;
+    }
+    put_byte(text, to, b'\n')
 }
 
 // So many spaces.

@@ -4,7 +4,6 @@ use checker::Checked;
 use checker::check;
 use log::Header;
 use log::Written;
-use log::write_with;
 use online::Cache;
 use online::RunningCost;
 use planner::LeastCosts;
@@ -14,6 +13,7 @@ use planner::plan;
 use prices::Prices;
 use prices::built_in;
 use prices::of_class;
+use writer::write_with;
 
 pub(crate) const ABSENT: u64 = 18446744073709551615;
 

@@ -11,6 +11,7 @@ pub mod online;
 pub mod planner;
 pub mod prices;
 pub mod quote;
+pub mod season;
 pub mod uploads;
 pub mod week;
 pub mod weeks;

@@ -7,6 +7,7 @@ pub mod online;
 pub mod planner;
 mod prices;
 pub mod quote;
+pub mod season;
 pub mod week;
 
 use crate::calls::Calls;

@@ -37,6 +37,13 @@ fn unsound(cache: &Cache) -> bool {
 
 pub fn scan(cache: &mut Cache, id: [u8; 16], second: u32, server: u16) -> Result<Served, Refusal> {
     cache.scan_fault(id, second, server, unsound)?;
+    let source = serve(cache, second, server);
+    Ok(Served { source, running: cache.cost() })
+}
+
+/// A request that nothing is wrong with; gives back the source of its transfer, if there is one.
+#[inline(always)]
+pub(super) fn serve(cache: &mut Cache, second: u32, server: u16) -> Option<u16> {
     let window = cache.prices.window() as u32;
     let (at, last) = (server as usize, cache.last as usize);
     let mut held = second - cache.second;
@@ -64,8 +71,7 @@ pub fn scan(cache: &mut Cache, id: [u8; 16], second: u32, server: u16) -> Result
     cache.second = second;
     cache.requests += 1;
     cache.held += held;
-    let source = if kept { None } else { Some(last as u16) };
-    Ok(Served { source, running: cache.cost() })
+    if kept { None } else { Some(last as u16) }
 }
 
 pub fn running(cache: &Cache) -> Result<u64, Refusal> {

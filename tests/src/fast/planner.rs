@@ -14,18 +14,18 @@ const NEVER: u64 = u64::MAX / 2;
 const POINTS: usize = MOST_REQUESTS + 1;
 
 /// The points of a log: home at second 0, then the requests; the prices of its class, and that of an upload.
-struct Points {
-    prices: Prices,
+pub(super) struct Points {
+    pub(super) prices: Prices,
     upload: u64,
-    header: Header,
-    count: usize,
-    second: [u32; POINTS],
-    server: [u8; POINTS],
+    pub(super) header: Header,
+    pub(super) count: usize,
+    pub(super) second: [u32; POINTS],
+    pub(super) server: [u8; POINTS],
 }
 
 // in its callers, as its lists would be copied
 #[inline(always)]
-fn points(prices: PriceFile, upload: Upload, file: &[u8]) -> Result<Points, Refusal> {
+pub(super) fn points(prices: PriceFile, upload: Upload, file: &[u8]) -> Result<Points, Refusal> {
     let table = table(prices)?;
     let mut second = [0; POINTS];
     let mut server = [0; POINTS];
@@ -55,13 +55,13 @@ impl Points {
 }
 
 /// The least cost of the requests so far for each state, and each server's latest point.
-struct Costs {
-    cost: [u64; 64],
+pub(super) struct Costs {
+    pub(super) cost: [u64; 64],
     latest: [i32; 64],
 }
 
 impl Costs {
-    fn new(home: u8) -> Costs {
+    pub(super) fn new(home: u8) -> Costs {
         let mut costs = Costs { cost: [NEVER; 64], latest: [-1; 64] };
         costs.cost[home as usize] = 0;
         costs.latest[home as usize] = 0;
@@ -69,7 +69,7 @@ impl Costs {
     }
 
     /// One request more; gives back the states in which it is K.
-    fn step(&mut self, points: &Points, i: usize) -> u64 {
+    pub(super) fn step(&mut self, points: &Points, i: usize) -> u64 {
         let (at, before) = (points.server[i] as usize, points.server[i - 1] as usize);
         let previous = self.latest[at];
         let keep = if previous < 0 { NEVER } else { points.hold(previous as usize, i) };

@@ -34,6 +34,9 @@ loop-again c = search needs
 sheet-cases-requires : tie.Need-sheet-cases-requires Inv-loop μ-loop
 sheet-cases-requires c κs = search needs
 
+season-cases-requires : tie.Need-season-cases-requires Inv-loop μ-loop
+season-cases-requires c κs = search needs
+
 returns : tie.Need-returns Inv-loop μ-loop
 returns c = search needs
 
@@ -51,4 +54,5 @@ main-spec =
     loop-less
     loop-again
     sheet-cases-requires
+    season-cases-requires
     returns)

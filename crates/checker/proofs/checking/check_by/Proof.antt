@@ -9,10 +9,10 @@ use Rattle.prices.specs.PriceFile.{table-in}
 use Rattle.prices.specs.Tariff.{tariff}
 use Rattle.prices.specs.Uploads.{if-given}
 use Rattle.model.specs.LogRequests.{prices-in}
+use Rattle.rows.specs.GivenLaws.{given-some}
 use Rattle.checker.specs.Answers.{checked}
 use Rattle.model.specs.Rates.{some?}
 use Rattle.checker.specs.Quick.{schedule-tests}
-use Rattle.checker.specs.GivenLaws.{given-some}
 use Rattle.checker.specs.AnswerLaws.{log-refused, price-refused, log-accepted, sums-fit, prices-fit}
 use Rattle.model.specs.RateLaws.{fee-most}
 use Rattle.checker.proofs.checking.check_by.Statement.{statement}

@@ -1,5 +1,5 @@
 -- `checker::checking::fee` meets its contract. Assumes nothing.
-use Rattle.checker.specs.GivenLaws.{given-fee}
+use Rattle.rows.specs.GivenLaws.{given-fee}
 use Rattle.checker.proofs.checking.fee.Statement.{statement}
 use Rattle.checker.proofs.checking.fee.Tie as tie
 

@@ -5,11 +5,9 @@ use native.Mathlib.Nat.{sub-self}
 use native.Mathlib.Omega.{arith}
 use Prim.Native.Nat.{_≤_, _-_}
 use Rattle.model.specs.Checking.{row-count}
-use Rattle.checker.specs.Quick.{first-upload, standing-at, starved, unbacked}
+use Rattle.checker.specs.Quick.{standing-at, starved, unbacked}
 use Rattle.checker.specs.QuickHolds.{lower-within}
 use Rattle.checker.specs.CopySteps.{starved-more, unbacked-more}
-use Rattle.checker.specs.Search.{upload-key}
-use Rattle.checker.specs.SearchLaws.{position-most}
 use Rattle.checker.proofs.copies.scan.Statement.{statement}
 use Rattle.checker.proofs.copies.scan.Tie as tie
 
@@ -28,11 +26,8 @@ loop-holds c =
     let a = c .before .before .before .args in
     rw (sub-self (a .from)) (search needs, search needs, search needs, refl, refl, c .standing .ensures)
 
-whole-requires : tie.Need-whole-requires Inv-loop μ-loop
-unfolding first-upload row-count
-whole-requires c κs =
-    let s = c .before .before .before .before .before in
-    omega (arith, s .pre .1, position-most (s .args .ns .now) (upload-key 0 0))
+row-requires : tie.Need-row-requires Inv-loop μ-loop
+row-requires c κs = search needs
 
 second-requires : tie.Need-second-requires Inv-loop μ-loop
 second-requires c κs = search needs
@@ -68,8 +63,8 @@ loop-again c =
       search needs,
       search needs,
       rw (c .before .before .lower .ensures) (lower-within _ (l .low) _ (l .inv .2)),
-      starved-more (a .count) (a .home) (a .ns .now) (a .from) (l .i) (l .low) _ _ _ _ _ (l .inv .0) (l .inv .3) (c .before .before .before .before .before .before .before .before .whole .ensures) second now (c .before .before .before .unfed .ensures) (c .before .before .lower .ensures),
-      unbacked-more (a .count) (a .home) (a .ns .now) (a .from) (l .i) (l .late) _ _ _ _ (l .inv .0) (l .inv .4) (c .before .before .before .before .before .before .before .before .whole .ensures) second now (rw (← c .before .unbacked .ensures) (c .lower2 .ensures)),
+      starved-more (a .count) (a .home) (a .ns .now) (a .from) (l .i) (l .low) _ _ _ _ _ (l .inv .0) (l .inv .3) (c .before .before .before .before .before .before .before .before .row .ensures) second now (c .before .before .before .unfed .ensures) (c .before .before .lower .ensures),
+      unbacked-more (a .count) (a .home) (a .ns .now) (a .from) (l .i) (l .late) _ _ _ _ (l .inv .0) (l .inv .4) (c .before .before .before .before .before .before .before .before .row .ensures) second now (rw (← c .before .unbacked .ensures) (c .lower2 .ensures)),
       now,
     )
 
@@ -89,7 +84,7 @@ scan-spec =
     μ-loop
     standing-requires
     loop-holds
-    whole-requires
+    row-requires
     second-requires
     seen-at-requires
     unfed-requires

@@ -1,9 +1,9 @@
 -- `checker::search::key` meets its contract. Assumes nothing.
 use borrow.Author.Needs.{needs}
 use native.Mathlib.Omega.{arith}
+use Rattle.rows.specs.ReadingLaws.{row-hold}
 use Rattle.checker.specs.Search.{key, hold-key}
 use Rattle.checker.specs.SearchLaws.{move-key}
-use Rattle.checker.specs.ReadingLaws.{row-hold}
 use Rattle.checker.proofs.search.key.Statement.{statement}
 use Rattle.checker.proofs.search.key.Tie as tie
 

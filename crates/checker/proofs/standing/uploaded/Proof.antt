@@ -2,7 +2,6 @@
 use borrow.Author.Needs.{needs}
 use Rattle.model.specs.Checking.{row-count}
 use Rattle.checker.specs.QuickSteps.{uploads-none, uploads-read}
-use Rattle.checker.specs.SearchLaws.{position-most}
 use Rattle.checker.proofs.standing.uploaded.Statement.{statement}
 use Rattle.checker.proofs.standing.uploaded.Tie as tie
 
@@ -21,13 +20,13 @@ from-upload-requires c κs = search needs
 from-upload-requires-2 : tie.Need-from-upload-requires-2
 from-upload-requires-2 c κs = search needs
 
-servers-requires : tie.Need-servers-requires
-servers-requires c κs = rw (c .from-upload2 .ensures) (position-most (c .before .before .before .before .before .before .before .args .ns .now) _)
+servers-of-requires : tie.Need-servers-of-requires
+servers-of-requires c κs = search needs
 
 returns-2 : tie.Need-returns-2
 returns-2 c =
     let a = c .before .before .before .before .before .before .before .before .args in
-    uploads-read (a .home) (a .ns .now) (a .t) _ _ _ _ (c .before .before .before .from-upload .ensures) (c .before .from-upload2 .ensures) (c .before .before .before .before .before .before .start .ensures) (c .servers .ensures)
+    uploads-read (a .home) (a .ns .now) (a .t) _ _ _ _ (c .before .before .before .from-upload .ensures) (c .before .from-upload2 .ensures) (c .before .before .before .before .before .before .start .ensures) (c .servers-of .ensures)
 
 pub uploaded-spec : {M : Type 1} → statement M
 uploaded-spec =
@@ -37,5 +36,5 @@ uploaded-spec =
     returns
     from-upload-requires
     from-upload-requires-2
-    servers-requires
+    servers-of-requires
     returns-2)

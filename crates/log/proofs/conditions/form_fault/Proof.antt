@@ -1,95 +1,27 @@
 -- `log::conditions::form_fault` meets its contract. Assumes nothing.
 use borrow.Author.Needs.{needs}
-use Rattle.base.specs.Refusals.{from}
-use Rattle.base.specs.RefusalLaws.{from-append}
-use Rattle.log.specs.Fields.{version, class-of, server-count, home-of, request-count}
+use Rattle.log.specs.ConditionLaws.{form-parts}
 use Rattle.log.proofs.conditions.form_fault.Statement.{statement}
 use Rattle.log.proofs.conditions.form_fault.Tie as tie
 
-at16-requires : tie.Need-at16-requires
-at16-requires c κs = search needs
-
-or-else-requires : tie.Need-or-else-requires
-or-else-requires c κs = search needs
-
-at16-requires-2 : tie.Need-at16-requires-2
-at16-requires-2 c κs = search needs
-
-or-else-requires-2 : tie.Need-or-else-requires-2
-or-else-requires-2 c κs = search needs
-
-at-requires : tie.Need-at-requires
-at-requires c κs = search needs
-
-at-requires-2 : tie.Need-at-requires-2
-at-requires-2 c κs = search needs
-
-at-requires-3 : tie.Need-at-requires-3
-at-requires-3 c κs = search needs
-
-setup-fault-requires : tie.Need-setup-fault-requires
-setup-fault-requires c κs = search needs
-
-at-requires-4 : tie.Need-at-requires-4
-at-requires-4 c κs = search needs
-
-or-else-requires-3 : tie.Need-or-else-requires-3
-or-else-requires-3 c κs = search needs
-
-or-else-requires-4 : tie.Need-or-else-requires-4
-or-else-requires-4 c κs = search needs
-
-misplaced-requires : tie.Need-misplaced-requires
-misplaced-requires c κs = search needs
-
-or-else-requires-5 : tie.Need-or-else-requires-5
-or-else-requires-5 c κs = search needs
+head-fault-requires : tie.Need-head-fault-requires
+head-fault-requires c κs = search needs
 
 total-differs-requires : tie.Need-total-differs-requires
 total-differs-requires c κs = search needs
 
-or-else-requires-6 : tie.Need-or-else-requires-6
-or-else-requires-6 c κs = search needs
+or-else-requires : tie.Need-or-else-requires
+or-else-requires c κs = search needs
 
 returns : tie.Need-returns
-unfolding from version class-of server-count home-of request-count
 returns c =
-    simp (
-      from-append,
-      c .or-else6 .ensures,
-      c .before .total-differs .ensures,
-      c .before .before .or-else5 .ensures,
-      c .before .before .before .misplaced .ensures,
-      c .before .before .before .before .or-else4 .ensures,
-      c .before .before .before .before .before .or-else3 .ensures,
-      c .before .before .before .before .before .before .at4 .ensures,
-      c .before .before .before .before .before .before .before .setup-fault .ensures,
-      c .before .before .before .before .before .before .before .before .at3 .ensures,
-      c .before .before .before .before .before .before .before .before .before .at2 .ensures,
-      c .before .before .before .before .before .before .before .before .before .before .at .ensures,
-      c .before .before .before .before .before .before .before .before .before .before .before .or-else2 .ensures,
-      c .before .before .before .before .before .before .before .before .before .before .before .before .at162 .ensures,
-      c .before .before .before .before .before .before .before .before .before .before .before .before .before .or-else .ensures,
-      c .before .before .before .before .before .before .before .before .before .before .before .before .before .before .at16 .ensures,
-    )
+    simp (form-parts, c .or-else .ensures, c .before .total-differs .ensures, c .before .before .head-fault .ensures)
 
 pub form-fault-spec : {M : Type 1} → statement M
 form-fault-spec =
     tie.close
     (tie.spec
-    at16-requires
-    or-else-requires
-    at16-requires-2
-    or-else-requires-2
-    at-requires
-    at-requires-2
-    at-requires-3
-    setup-fault-requires
-    at-requires-4
-    or-else-requires-3
-    or-else-requires-4
-    misplaced-requires
-    or-else-requires-5
+    head-fault-requires
     total-differs-requires
-    or-else-requires-6
+    or-else-requires
     returns)

@@ -1,7 +1,7 @@
 -- `log::conditions::requests_fault` meets its contract. Assumes nothing.
 use borrow.Author.Needs.{needs}
 use mathlib.Core.Path.{_≡_, refl, sym, _∙_}
-use Prim.Native.Nat.{suc, _≤_, _-_}
+use Prim.Native.Nat.{_≤_, _-_}
 use native.Mathlib.Omega.{arith}
 use native.Mathlib.Numerals.{add-one}
 use Rattle.log.specs.ConditionLaws.{request-found}
@@ -34,9 +34,6 @@ request-at-requires : tie.Need-request-at-requires Inv-loop μ-loop
 unfolding request-count length-for
 request-at-requires c κs = search needs
 
-size-from-u16-requires : tie.Need-size-from-u16-requires Inv-loop μ-loop
-size-from-u16-requires c κs = search needs
-
 place-requires : tie.Need-place-requires Inv-loop μ-loop
 place-requires c κs = search needs
 
@@ -50,13 +47,12 @@ returns : tie.Need-returns Inv-loop μ-loop
 unfolding request-count server-count
 returns c =
     let p = c .before .before .before in
-    let l = p .before .before .before .before .before .loop in
-    let log = p .before .before .before .before .before .before .before .before .before .args .log .now in
-    let second = p .before .before .before .request-at .ensures .0 in
-    let server = p .before .before .before .request-at .ensures .1 in
-    let place : p .before .place .result ≡ suc (l .i) = rw (p .before .before .size-from-u16 .ensures .0) at (p .before .place .ensures) in
+    let l = p .before .before .before .before .loop in
+    let log = p .before .before .before .before .before .before .before .before .args .log .now in
+    let second = p .before .before .request-at .ensures .0 in
+    let server = p .before .before .request-at .ensures .1 in
     sym (each-refused (log-requests log) (l .i) (request-count log) _ (search needs) (l .inv .1)
-    (request-found log (l .i) _ _ _ _ _ _ (search needs) (p .before .before .before .before .before .before .before .at .ensures) server second (l .inv .2) place (p .request-fault .ensures) ∙ c .before .v .given .1))
+    (request-found log (l .i) _ _ _ _ _ _ (search needs) (p .before .before .before .before .before .before .at .ensures) server second (l .inv .2) (p .before .place .ensures) (p .request-fault .ensures) ∙ c .before .v .given .1))
 
 enum-told : tie.Need-enum-told Inv-loop μ-loop
 enum-told c = search needs
@@ -71,15 +67,14 @@ loop-again : tie.Need-loop-again Inv-loop μ-loop
 unfolding request-count server-count
 loop-again c =
     let p = c .before .before in
-    let l = p .before .before .before .before .before .loop in
-    let log = p .before .before .before .before .before .before .before .before .before .args .log .now in
-    let second = p .before .before .before .request-at .ensures .0 in
-    let server = p .before .before .before .request-at .ensures .1 in
-    let place : p .before .place .result ≡ suc (l .i) = rw (p .before .before .size-from-u16 .ensures .0) at (p .before .place .ensures) in (
+    let l = p .before .before .before .before .loop in
+    let log = p .before .before .before .before .before .before .before .before .args .log .now in
+    let second = p .before .before .request-at .ensures .0 in
+    let server = p .before .before .request-at .ensures .1 in (
       search needs,
       rw (add-one (l .i))
           (each-more (log-requests log) (l .i) (l .inv .1)
-          (request-found log (l .i) _ _ _ _ _ _ (search needs) (p .before .before .before .before .before .before .before .at .ensures) server second (l .inv .2) place (p .request-fault .ensures)
+          (request-found log (l .i) _ _ _ _ _ _ (search needs) (p .before .before .before .before .before .before .at .ensures) server second (l .inv .2) (p .before .place .ensures) (p .request-fault .ensures)
           ∙ c .enum-told .given .1)),
       rw (second, add-one (l .i)) (sym (before-next log (l .i) (search needs))),
     )
@@ -102,7 +97,6 @@ requests-fault-spec =
     at16-requires
     loop-holds
     request-at-requires
-    size-from-u16-requires
     place-requires
     request-fault-requires
     enum-known-v

@@ -16,17 +16,23 @@ put-heading-requires c κs = search needs
 put-entries-requires : tie.Need-put-entries-requires
 put-entries-requires c κs = search needs
 
-slice-aggregate-put-figure : tie.Need-slice-aggregate-put-figure
-slice-aggregate-put-figure c = search needs
+slice-aggregate-put-line : tie.Need-slice-aggregate-put-line
+slice-aggregate-put-line c = search needs
 
-put-figure-requires : tie.Need-put-figure-requires
-put-figure-requires c κs = search needs
+slice-aggregate-put-line-2 : tie.Need-slice-aggregate-put-line-2
+slice-aggregate-put-line-2 c = search needs
 
-slice-aggregate-put-figure-2 : tie.Need-slice-aggregate-put-figure-2
-slice-aggregate-put-figure-2 c = search needs
+put-line-requires : tie.Need-put-line-requires
+put-line-requires c κs = search needs
 
-put-figure-requires-2 : tie.Need-put-figure-requires-2
-put-figure-requires-2 c κs = search needs
+slice-aggregate-put-line-3 : tie.Need-slice-aggregate-put-line-3
+slice-aggregate-put-line-3 c = search needs
+
+slice-aggregate-put-line-4 : tie.Need-slice-aggregate-put-line-4
+slice-aggregate-put-line-4 c = search needs
+
+put-line-requires-2 : tie.Need-put-line-requires-2
+put-line-requires-2 c κs = search needs
 
 same-length : tie.Need-same-length
 same-length c = search needs
@@ -34,16 +40,18 @@ same-length c = search needs
 returns : tie.Need-returns
 unfolding ascii
 returns c =
-    let s = c .before .before .before .before .before .before .before .before .before .before .before .before .before .before .before .before .before .before .before .before .before .before .before .before .before in
+    let rows = c .before .before .before .before .before .before .before .before in
+    let entries = rows .before .before .before .before .before .before in
+    let top = entries .before .before .before .before in
+    let s = top .before .before .before .before .before .before .before .before .before in
     let a = s .args in
     let e = entry-of (columns (a .seconds .now) (a .servers .now) (a .plan .now) (a .live .now) (a .least .now) (a .costs .now)) in
     let o = a .text .now in
-    let entries = c .before .before .before .before .before .before .before .before .before .before .before .before .put-entries .ensures in
     let parts : page _ _ ≡ added (sheet-text e (a .n) (a .rows) (a .closing)) (page 0 o) =
-    c .before .before .put-figure2 .ensures
-    ∙ rw (c .before .before .before .before .before .before .before .put-figure .ensures, entries .0, c .before .before .before .before .before .before .before .before .before .before .before .before .before .before .before .before .put-heading .ensures) (sheet-parts e (a .n) (a .rows) (a .closing) (page 0 o)) in
+    c .before .before .put-line2 .ensures
+    ∙ rw (rows .put-line .ensures, entries .put-entries .ensures .0, top .put-heading .ensures) (sheet-parts e (a .n) (a .rows) (a .closing) (page 0 o)) in
     front-of (sheet-text e (a .n) (a .rows) (a .closing)) o _ _ parts
-    (omega (arith, sheet-length e (a .n) (a .rows) (a .closing) (omega arith) (s .fits .rows .fits) (s .fits .closing .fits) (entries .1)))
+    (omega (arith, sheet-length e (a .n) (a .rows) (a .closing) (omega arith) (s .fits .rows .fits) (s .fits .closing .fits) (entries .put-entries .ensures .1)))
 
 pub put-lines-spec : {M : Type 1} → statement M
 put-lines-spec =
@@ -51,9 +59,11 @@ put-lines-spec =
     (tie.spec
     put-heading-requires
     put-entries-requires
-    slice-aggregate-put-figure
-    put-figure-requires
-    slice-aggregate-put-figure-2
-    put-figure-requires-2
+    slice-aggregate-put-line
+    slice-aggregate-put-line-2
+    put-line-requires
+    slice-aggregate-put-line-3
+    slice-aggregate-put-line-4
+    put-line-requires-2
     same-length
     returns)

@@ -9,7 +9,7 @@ use Rattle.log.specs.Fields.{id-of, header-of}
 use Rattle.log.specs.declared.Header.{Header}
 use Rattle.online.specs.Answers.{started-for-log}
 use Rattle.report.specs.SheetLaws.{runs-read, sheet-made, closing-made}
-use Rattle.report.specs.Live.{opened}
+use Rattle.live.specs.Live.{opened}
 use Rattle.report.specs.Alike.{lent-alike}
 use Rattle.report.proofs.sheets.put_sheet.Statement.{statement}
 use Rattle.report.proofs.sheets.put_sheet.Tie as tie
