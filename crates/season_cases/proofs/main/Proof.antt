@@ -29,23 +29,23 @@ read-all-requires c κs = search needs
 paper-requires : tie.Need-paper-requires
 paper-requires c κs = search needs
 
-slice-aggregate-answer : tie.Need-slice-aggregate-answer
-slice-aggregate-answer c = search needs
+slice-aggregate-finish : tie.Need-slice-aggregate-finish
+slice-aggregate-finish c = search needs
 
-slice-aggregate-answer-2 : tie.Need-slice-aggregate-answer-2
-slice-aggregate-answer-2 c = search needs
+finish-requires : tie.Need-finish-requires
+finish-requires c κs = search needs
 
-answer-requires : tie.Need-answer-requires
-answer-requires c κs = search needs
+slice-aggregate-summary : tie.Need-slice-aggregate-summary
+slice-aggregate-summary c = search needs
 
-array-share-prefix-text : tie.Need-array-share-prefix-text
-array-share-prefix-text c = search needs
+summary-requires : tie.Need-summary-requires
+summary-requires c κs = search needs
 
-slice-aggregate-write-all : tie.Need-slice-aggregate-write-all
-slice-aggregate-write-all c = search needs
+slice-aggregate-show : tie.Need-slice-aggregate-show
+slice-aggregate-show c = search needs
 
-write-all-requires : tie.Need-write-all-requires
-write-all-requires c κs = search needs
+show-requires : tie.Need-show-requires
+show-requires c κs = search needs
 
 returns : tie.Need-returns
 returns c = search needs
@@ -62,10 +62,10 @@ main-spec =
     slice-aggregate-read-all-2
     read-all-requires
     paper-requires
-    slice-aggregate-answer
-    slice-aggregate-answer-2
-    answer-requires
-    array-share-prefix-text
-    slice-aggregate-write-all
-    write-all-requires
+    slice-aggregate-finish
+    finish-requires
+    slice-aggregate-summary
+    summary-requires
+    slice-aggregate-show
+    show-requires
     returns)
