@@ -1,4 +1,6 @@
 // What every crate above needs: refusals, sets of servers in a word, total reads of bytes, numbers in wider types.
+#![tactic(auto)]
+
 pub mod bytes;
 pub mod refusals;
 pub mod sets;

@@ -1,5 +1,7 @@
 // Each refusal of the log's calls, met just past its boundary, and the case on the right side of it. A line gives the case, then
 // the refusal's number and place, or `taken` and the number of requests or bytes. Cases stand in tables, one loop over each.
+#![tactic(auto)]
+
 use base::Refusal;
 use libc::STDOUT_FILENO;
 use prices::built_in;

@@ -1,4 +1,6 @@
 // The schedule checker.
+#![tactic(auto)]
+
 mod checking;
 mod conditions;
 mod copies;

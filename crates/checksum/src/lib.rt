@@ -1,4 +1,6 @@
 // The log's sum.
+#![tactic(auto)]
+
 ghost use Rattle.std.specs.Prelude.{◌≡◌, ◌+◌, ◌*◌, ◌%◌, ◌^◌, length};
 ghost use Rattle.checksum.specs.Sum.{sum_from, sum_of};
 

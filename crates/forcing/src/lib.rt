@@ -1,4 +1,6 @@
 // The game of 02's Req 13, what can a contrary guest force. No function is here: positions, rounds and who can force a win are in specs/.
+#![tactic(auto)]
+
 use prices::Prices;
 
 // A game: how many servers, home is 0, and how many requests; a gap has from 1 second to the largest; the prices; the limit p over q. Its layout is C's.

@@ -1,4 +1,6 @@
 // Who wins the game of 02's Req 13 (crate forcing): the keeper's turn and the guest's, tried through.
+#![tactic(auto)]
+
 mod board;
 mod costs;
 mod playing;

@@ -1,4 +1,6 @@
 // The online cache over the requests of a log.
+#![tactic(auto)]
+
 ghost use Rattle.std.specs.Prelude.{◌≡◌};
 ghost use Rattle.prices.specs.Tariff.{price_file};
 ghost use Rattle.online.specs.Answers.{started_for_log, closed_answer, running_answer};

@@ -1,4 +1,6 @@
 // The online cache (01: the live keeper): its state and its answers. The calls are in start, scan, running and close.
+#![tactic(auto)]
+
 mod close;
 mod conditions;
 mod ids;

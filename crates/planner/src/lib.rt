@@ -1,4 +1,6 @@
 // The planner: the cheapest schedule that there could have been, and the least cost of every prefix.
+#![tactic(auto)]
+
 mod costs;
 mod holders;
 mod planning;

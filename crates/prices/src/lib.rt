@@ -1,4 +1,6 @@
 // The prices of 01's 'Prices', of 02's price files and of its uploads.
+#![tactic(auto)]
+
 mod file;
 
 ghost use Rattle.std.specs.Prelude.{◌≡◌, ◌*◌};

@@ -1,4 +1,6 @@
 // The sheet of 01's 'The sheet', as bytes in a text that is lent.
+#![tactic(auto)]
+
 mod columns;
 mod lines;
 mod sheets;

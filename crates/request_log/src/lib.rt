@@ -1,4 +1,6 @@
 // The log format of 01's 'The log', and its reader.
+#![tactic(auto)]
+
 mod conditions;
 mod reader;
 mod requests;

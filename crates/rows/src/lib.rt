@@ -1,4 +1,6 @@
 // The rows of a schedule where they stand in its numbers: each one alone, and passes over some of them.
+#![tactic(auto)]
+
 mod forms;
 mod kinds;
 mod reading;

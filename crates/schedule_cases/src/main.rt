@@ -1,5 +1,7 @@
 // Each refusal of the checker, met just past its boundary, and the case on the right side of it. Cases stand in tables, one loop over
 // all. A line gives the log, the rows' numbers, then the refusal's number and place, or `cost` and the cost.
+#![tactic(auto)]
+
 use base::Refusal;
 use checker::Checked;
 use libc::STDOUT_FILENO;

@@ -1,4 +1,6 @@
 // The season: a tally of logs that come end to end in pieces of any size, and its report (02's Req 12).
+#![tactic(auto)]
+
 mod bills;
 mod feeding;
 mod lines;

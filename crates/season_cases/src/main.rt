@@ -1,4 +1,6 @@
 // The season in pieces of a length that its input names: the first two bytes, 1 to 12,328. The rest of the input is fed so, and its report printed.
+#![tactic(auto)]
+
 ghost use Rattle.std.specs.Prelude.{◌≡◌, ◌≤◌, length};
 ghost use Rattle.request_log.specs.Sizes.{log_room};
 ghost use Rattle.season.specs.ReportText.{report_room};

@@ -1,4 +1,6 @@
 // The season report program: logs end to end on standard input, their report on standard output.
+#![tactic(auto)]
+
 ghost use Rattle.std.specs.Prelude.{◌≡◌, ◌≤◌, length, take};
 ghost use Rattle.io.specs.Counts.{IsPrefixLen};
 ghost use Rattle.prices.specs.Tariff.{built_in};

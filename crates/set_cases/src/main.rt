@@ -1,5 +1,7 @@
 // The member of a set nearest to a number, beside a search through all 64 servers: some sets, every set of servers 0 to 7, and drawn words.
 // A line of a set gives its word, the number and the member; the other lines count how many were asked for and how many agree.
+#![tactic(auto)]
+
 use base::sets::{has, nearest};
 use base::widths::{u32_from_u16, u64_from_u16, u64_from_u32};
 use libc::STDOUT_FILENO;

@@ -1,5 +1,7 @@
 // The sheet program: a log on standard input, its sheet or one line of refusal on standard output. Its one argument, if it has one, names
 // a price file.
+#![tactic(auto)]
+
 ghost use Rattle.std.specs.Prelude.{◌≡◌, ◌≤◌, ◌<◌, length, take};
 ghost use Rattle.io.specs.Counts.{IsPrefixLen};
 ghost use Rattle.prices.specs.PriceFile.{built_in_bytes};

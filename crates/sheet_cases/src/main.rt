@@ -2,6 +2,8 @@
 // full of noise. A line gives the case and the text's length; then the answer, the place up to which there are zeros after it, and the
 // place up to which there is noise after these; then what was printed, a sheet or a report on lines of its own. Last a piece of no bytes for a season
 // that is said to hold so many bytes in a room of so many: how many it holds then, or the refusal.
+#![tactic(auto)]
+
 use base::{Refusal, Verdict};
 use libc::STDOUT_FILENO;
 use request_log::{Header, LOG_LIMIT};

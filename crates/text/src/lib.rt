@@ -1,4 +1,6 @@
 // Printed lines as bytes in a text that is lent: what every page is made of, and the line of a refusal.
+#![tactic(auto)]
+
 pub mod give;
 pub mod put;
 mod refusal;

@@ -1,4 +1,6 @@
 // The library executed: figures of document 002, weeks of our own, and a brute-force planner over small weeks.
+#![tactic(auto)]
+
 mod brute;
 mod draw;
 mod figures;

@@ -1,4 +1,6 @@
 // The week page of 02's Req 01, as bytes in a text that is lent.
+#![tactic(auto)]
+
 mod days;
 mod lines;
 mod pages;

@@ -1,4 +1,6 @@
 // The week page program: a log on standard input, its week page or one line of refusal on standard output.
+#![tactic(auto)]
+
 ghost use Rattle.std.specs.Prelude.{◌≡◌, ◌≤◌, length, take};
 ghost use Rattle.io.specs.Counts.{IsPrefixLen};
 ghost use Rattle.prices.specs.Tariff.{built_in};

@@ -1,4 +1,6 @@
 // The writer of logs.
+#![tactic(auto)]
+
 mod conditions;
 
 ghost use Rattle.std.specs.Prelude.{◌≡◌, ◌++◌, ◌+◌, ◌*◌, ◌≤◌, ◌<◌, length, take, drop};
