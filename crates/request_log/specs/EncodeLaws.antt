@@ -3,7 +3,7 @@ use mathlib.Core.List.{List, [], ◌∷◌, ◌++◌, append_assoc, append-nil}
 use Rattle.std.specs.Prelude.{◌⊎◌, ◌≡◌, get_or}
 use Rattle.std.proofs.Common.{inl, inr, ◌∙◌, arith, take_all, get_or-append-add}
 use Rattle.std.proofs.Math.Path.{refl, sym, ap}
-use Prim.Native.Nat.{ℕ, zero, suc, ◌+◌, ◌*◌, ◌^◌, ◌≤◌, ◌<◌}
+use Prim.Native.Nat.{ℕ, zero, suc, ◌+◌, ◌*◌, ◌%◌, ◌^◌, ◌≤◌, ◌<◌}
 use Rattle.std.proofs.Math.ListN.{length, length-append, get_or-append}
 use Rattle.base.specs.Choice.{le_or_lt}
 use Rattle.base.specs.Bytes.{byte, le16, le32, bytes}
@@ -24,7 +24,7 @@ sum_for c = sum_from 0 (head c.header (length c.seconds) ++ body c.header c.seco
 pub sum_small : (x : ℕ) (l : List ℕ) → x < 2 ^ 32 → sum_from x l < 2 ^ 32
 unfolding sum_from
 sum_small x [] h = h
-sum_small x (b ∷ bs) h = sum_small _ bs (omega arith)
+sum_small x (b ∷ bs) h = sum_small ((31 * x + b) % 2 ^ 32) bs (omega arith)
 
 -- a request takes six bytes
 pub requests_length : (seconds servers : List ℕ) (k : ℕ) → length (requests_bytes seconds servers k) ≡ 6 * k
