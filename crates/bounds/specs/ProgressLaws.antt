@@ -67,7 +67,7 @@ due_not_32 s p close = first_never 32 (call_conditions s p close) (other (λ z. 
 -- nor is it among those of a list
 pub never_32 : (s : Header) (p : Progress) (calls : List Call) (x : Refusal) → Memᴰ (Refused x) (dues s p calls) → x.number ≢ 32
 unfolding dues
-never_32 s p [] x m = absurd (Memᴰ.not_nil m)
+never_32 s p [] x m = absurd (Memᴰ.not-nil m)
 never_32 s p (a ∷ calls) x m = go (Memᴰ.cases_cons m) (never_32 s (advanced (due s p a) a p) calls x)
   where
     go : (Refused x ≡ due s p a) ⊎ Memᴰ (Refused x) (dues s (advanced (due s p a) a p) calls)
@@ -83,7 +83,7 @@ due_own s p id τ y e = same_equal id s.id (not-false _ ((first_passed (call_con
 -- so did each request taken
 pub taken_own : (s : Header) (p : Progress) (calls : List Call) (r : Request) → Memᴰ r (taken s p calls) → r.id ≡ s.id
 unfolding taken with_request
-taken_own s p [] r m = absurd (Memᴰ.not_nil m)
+taken_own s p [] r m = absurd (Memᴰ.not-nil m)
 taken_own s p (a ∷ calls) r m = go a (due s p a) refl m (taken_own s (advanced (due s p a) a p) calls r)
   where
     later : List Request

@@ -124,7 +124,7 @@ module _ {A : Type 0} (f : A → ℕ) (R : A → A → Type 0) (same : (a : A) �
       }
     where
       only : (b : A) → Memᴰ b (a ∷ []) → b ≡ a
-      only b m = elim (Memᴰ.cases_cons m) [ inl e ↦ e | inr k ↦ absurd (Memᴰ.not_nil k) ]
+      only b m = elim (Memᴰ.cases_cons m) [ inl e ↦ e | inr k ↦ absurd (Memᴰ.not-nil k) ]
   found a (b ∷ bs) s = go (le_or_lt (f a) (f b)) (found a bs (λ y m. s.0 y (Memᴰ.tail m), s.1.1)) (found b bs s.1)
     where
       go : (f a ≤ f b) ⊎ (f b < f a) → Found a bs (first_least f a bs) → Found b bs (first_least f b bs)
@@ -135,5 +135,5 @@ module _ {A : Type 0} (f : A → ℕ) (R : A → A → Type 0) (same : (a : A) �
   -- so for a list that has an element
   pub least_foremost : (d x : A) (xs : List A) → Memᴰ x xs → Sorted R xs → Foremost xs (least_of f d xs)
   unfolding least_of
-  least_foremost d x [] m s = absurd (Memᴰ.not_nil m)
+  least_foremost d x [] m s = absurd (Memᴰ.not-nil m)
   least_foremost d x (a ∷ bs) m s = (found a bs s).foremost

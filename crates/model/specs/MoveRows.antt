@@ -6,7 +6,7 @@ use mathlib.Core.List.{List, [], ◌∷◌, ◌++◌, Memᴰ}
 use Rattle.std.proofs.Common.{inl, inr}
 use Rattle.std.proofs.Math.Path.{refl, ap}
 use native.Mathlib.Omega.{arith}
-use Prim.Native.Nat.{ℕ, zero, suc, ◌+◌, ◌≤◌, ◌<◌}
+use Prim.Native.Nat.{ℕ, zero, suc, ◌≤◌, ◌<◌}
 use Rattle.base.specs.Choice.{pick, le_or_lt}
 use Rattle.model.specs.Sums.{sum, total}
 use Rattle.model.specs.SumLaws.{total_append}
@@ -34,12 +34,12 @@ module _ (test : Mark → Bool) (row : ℕ → Row) (m : ℕ → Mark) where
   -- each is
   pub moved_row : {r : Row} (i : ℕ) → Memᴰ r (moved test row m i) → Moved i r
   unfolding moved
-  moved_row zero x = absurd (Memᴰ.not_nil x)
+  moved_row zero x = absurd (Memᴰ.not-nil x)
   moved_row {r} (suc i) x = go (moved_row i) (Memᴰ.append_cases (moved test row m i) x)
     where
       new : (b : Bool) → test (m (suc i)) ≡ b → Memᴰ r (pick b (row (suc i) ∷ []) []) → Moved (suc i) r
       new true e z = record { request = suc i; first = omega arith; upto = omega arith; passes = e; is = Memᴰ.eq_of_singleton z }
-      new false e z = absurd (Memᴰ.not_nil z)
+      new false e z = absurd (Memᴰ.not-nil z)
 
       go : (Memᴰ r (moved test row m i) → Moved i r)
           → Memᴰ r (moved test row m i) ⊎ Memᴰ r (pick (test (m (suc i))) (row (suc i) ∷ []) []) → Moved (suc i) r
@@ -87,7 +87,7 @@ module _ (test : Mark → Bool) (row : ℕ → Row) (m : ℕ → Mark) where
 
       go : (b : Bool) → ordered (moved test row m i) ≡ true → ordered (moved test row m i ++ pick b (row (suc i) ∷ []) []) ≡ true
       go true o = ordered_append (moved test row m i) (row (suc i) ∷ []) o refl next
-      go false o = ordered_append (moved test row m i) [] o refl (λ r s x z. absurd (Memᴰ.not_nil z))
+      go false o = ordered_append (moved test row m i) [] o refl (λ r s x z. absurd (Memᴰ.not-nil z))
 
 module _ (q : Requests) where
   -- the transfer to request i from its source

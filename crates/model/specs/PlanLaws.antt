@@ -92,7 +92,7 @@ module _ (p : Rates) (q : Requests) where
       go true e y =
           let r = Memᴰ.of_map (λ m. put_mark m (suc n) a) (markings p q n) y in
           record { lawful = e; start = r.0; inside = r.1; is = r.2 }
-      go false e y = absurd (Memᴰ.not_nil y)
+      go false e y = absurd (Memᴰ.not-nil y)
 
   to_block : (n : ℕ) (a : Mark) {m : ℕ → Mark} → legal p q (suc n) a ≡ true → Memᴰ m (markings p q n) → Memᴰ (put_mark m (suc n) a) (block n a)
   to_block n a e x = rw e (Memᴰ.map (λ m. put_mark m (suc n) a) x)
@@ -148,7 +148,7 @@ module _ (p : Rates) (q : Requests) where
   -- the list is in order
   markings_sorted : (n : ℕ) → Sorted (Before n) (markings p q n)
   unfolding markings rank
-  markings_sorted zero = (λ y x. absurd (Memᴰ.not_nil x), tt)
+  markings_sorted zero = (λ y x. absurd (Memᴰ.not-nil x), tt)
   markings_sorted (suc n) =
       let sorted = markings_sorted n in
       sorted_append (Before (suc n)) (block n K) (block n S ++ block n U) (within sorted K)

@@ -1,5 +1,5 @@
 -- Laws of the upload price: where none is given no feasible schedule has an upload; one that passed 44 is at most 1,000,000.
-use Rattle.std.specs.Prelude.{true, false, ◌≡◌, ℕ, ◌≤◌}
+use Rattle.std.specs.Prelude.{false, ◌≡◌, ℕ, ◌≤◌}
 use mathlib.Core.List.{List, Memᴰ}
 use Rattle.std.proofs.Math.Option.{Option, none, some}
 use Rattle.std.proofs.Common.{arith}

@@ -31,6 +31,7 @@ fits_upload count last x τ e = let (f, g) = both_true (ltb x count) (leb τ las
 pub all_fit_member : (count last : ℕ) (rows : List Row) → all_fit count last rows ≡ true
     → (r : Row) → Memᴰ r rows → fits count last r ≡ true
 unfolding all_fit
+all_fit_member count last [] e r m = elim m [ ]
 all_fit_member count last (s ∷ rows) e r (Memᴰ.head h) = rw h (both_true (fits count last s) (all_fit count last rows) e).0
 all_fit_member count last (s ∷ rows) e r (Memᴰ.tail m) =
     all_fit_member count last rows (both_true (fits count last s) (all_fit count last rows) e).1 r m
@@ -52,7 +53,7 @@ pub record Formed (count n last : ℕ) (rows : List Row) : Type 0 where
 pub formed : (count n last : ℕ) (rows : List Row) → well_formed count n last rows ≡ true → Formed count n last rows
 unfolding well_formed ordered
 formed count n last [] e =
-    record { asked = λ r m. absurd (Memᴰ.not_nil m); fit = λ r m. absurd (Memᴰ.not_nil m); order = refl }
+    record { asked = λ r m. absurd (Memᴰ.not-nil m); fit = λ r m. absurd (Memᴰ.not-nil m); order = refl }
 formed count n last (s ∷ rows) e =
     let (a, f) = both_true (ltb 0 n) (both (all_fit count last (s ∷ rows)) (ordered (s ∷ rows))) e in
     let (g, h) = both_true (all_fit count last (s ∷ rows)) (ordered (s ∷ rows)) f in
@@ -80,7 +81,7 @@ row_member ns (suc k) i l = go (le_or_lt k i) (row_member ns k i)
 
 pub member_row : (ns : List ℕ) (k : ℕ) {r : Row} → Memᴰ r (rows_upto ns k) → (i : ℕ) × (i < k) × (r ≡ row_at ns i)
 unfolding rows_upto
-member_row ns zero m = absurd (Memᴰ.not_nil m)
+member_row ns zero m = absurd (Memᴰ.not-nil m)
 member_row ns (suc k) {r} m = go (Memᴰ.append_cases (rows_upto ns k) m) (λ h. member_row ns k h)
   where
     go : Memᴰ r (rows_upto ns k) ⊎ Memᴰ r (row_at ns k ∷ [])

@@ -24,7 +24,7 @@ module _ (q : Requests) (m : ℕ → Mark) (n : ℕ) where
   -- each row of the servers' holds is one
   pub all_holds_row : {r : Row} (c : ℕ) → Memᴰ r (all_holds q m n c) → Held c r
   unfolding all_holds
-  all_holds_row zero x = absurd (mathlib.Core.List.Memᴰ.not_nil x)
+  all_holds_row zero x = absurd (mathlib.Core.List.Memᴰ.not-nil x)
   all_holds_row {r} (suc c) x = go (all_holds_row c) (mathlib.Core.List.Memᴰ.append_cases (all_holds q m n c) x)
     where
       go : (Memᴰ r (all_holds q m n c) → Held c r)

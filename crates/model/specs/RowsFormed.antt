@@ -48,7 +48,7 @@ hold_rows_ordered q f n y rise (suc k) h = go (begins_run f (suc k)) refl (hold_
     go : (b : Bool) → begins_run f (suc k) ≡ b → ordered (hold_rows q f n y k) ≡ true
         → ordered (hold_rows q f n y k ++ pick b (hold y (q.time k) (q.time end) ∷ []) []) ≡ true
     go true b o = ordered_append (hold_rows q f n y k) (hold y (q.time k) (q.time end) ∷ []) o refl (after b)
-    go false b o = ordered_append (hold_rows q f n y k) [] o refl (λ r s x z. absurd (Memᴰ.not_nil z))
+    go false b o = ordered_append (hold_rows q f n y k) [] o refl (λ r s x z. absurd (Memᴰ.not-nil z))
 
 module _ (q : Requests) (m : ℕ → Mark) (n : ℕ) (rise : Rising q n) where
   -- the servers' holds are ordered by server

@@ -115,7 +115,7 @@ module _ (q : Requests) (f : ℕ → Bool) (n y : ℕ) where
   pub hold_rows_run : {r : Row} (k : ℕ) → k ≤ n → Memᴰ r (hold_rows q f n y k)
       → (l e : ℕ) × (l < k) × Run f n l e × (r ≡ hold y (q.time l) (q.time e))
   unfolding hold_rows
-  hold_rows_run zero h x = absurd (Memᴰ.not_nil x)
+  hold_rows_run zero h x = absurd (Memᴰ.not-nil x)
   hold_rows_run {r} (suc k) h x = go (hold_rows_run k (omega arith)) (Memᴰ.append_cases (hold_rows q f n y k) x)
     where
       Runs : ℕ → Type 0
@@ -123,7 +123,7 @@ module _ (q : Requests) (f : ℕ → Bool) (n y : ℕ) where
 
       new : (b : Bool) → begins_run f (suc k) ≡ b → Memᴰ r (pick b (run_row k ∷ []) []) → Runs (suc k)
       new true e z = (k, run_end f (suc k) (n - suc k), omega arith, run_from f n k h e, Memᴰ.eq_of_singleton z)
-      new false e z = absurd (Memᴰ.not_nil z)
+      new false e z = absurd (Memᴰ.not-nil z)
 
       go : (Memᴰ r (hold_rows q f n y k) → Runs k)
           → Memᴰ r (hold_rows q f n y k) ⊎ Memᴰ r (pick (begins_run f (suc k)) (run_row k ∷ []) []) → Runs (suc k)

@@ -76,6 +76,7 @@ through_grows f g rows w k e = through_keeps (λ v. has v k ≡ true) f rows (λ
 through_adds : (f : ℕ → Row → ℕ) → Grows f → (rows : List Row) (r : Row) → Memᴰ r rows → (w k : ℕ)
     → ((v : ℕ) → ((i : ℕ) → has w i ≡ true → has v i ≡ true) → has (f v r) k ≡ true) → has (through f w rows) k ≡ true
 unfolding Grows through
+through_adds f g [] r m w k h = elim m [ ]
 through_adds f g (s ∷ rows) r (Memᴰ.head e) w k h = through_grows f g rows (f w s) k (rw e at (h w (λ i p. p)))
 through_adds f g (s ∷ rows) r (Memᴰ.tail m) w k h =
     through_adds f g rows r m (f w s) k (λ v up. h v (λ i p. up i (g w s i p)))

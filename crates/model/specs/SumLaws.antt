@@ -135,7 +135,7 @@ total_append f [] ys = omega arith
 total_append f (x ∷ xs) ys = omega (arith, total_append f xs ys)
 
 -- one item is no more than the whole
-pub total_member : {A : Type 0} (f : A → ℕ) {xs : List A} {a : A} → Memᴰ a xs → f a ≤ total f xs
+pub total_member : {A : Type 0} (f : A → ℕ) {a : A} {xs : List A} → Memᴰ a xs → f a ≤ total f xs
 unfolding total
 total_member f (Memᴰ.head e) = omega (arith, ap f e)
 total_member f (Memᴰ.tail m) = omega (arith, total_member f m)
