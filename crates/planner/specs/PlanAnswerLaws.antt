@@ -16,7 +16,6 @@ use Rattle.model.specs.Requests.{Within}
 use Rattle.model.specs.Schedule.{Row}
 use Rattle.model.specs.RowForm.{flat}
 use Rattle.model.specs.FlatLaws.{flat_length}
-use Rattle.model.specs.Marking.{rows}
 use Rattle.model.specs.TableLists.{at}
 use Rattle.planner.specs.Sizes.{places}
 use Rattle.planner.specs.HolderWords.{gap_word, marking}
