@@ -12,7 +12,7 @@ use Rattle.model.specs.Rates.{Rates, plain, rates, some?}
 use Rattle.model.specs.Requests.{Requests, latest, previous}
 use Rattle.model.specs.RequestLaws.{previous_some}
 use Rattle.model.specs.Alike.{Alike, best_alike}
-use Rattle.model.specs.Marking.{S, legal, gap}
+use Rattle.model.specs.Marking.{legal, gap}
 use Rattle.model.specs.Table.{open_gap, send_price, cheaper, away_price, may_leave, best}
 use Rattle.model.specs.BestLaws.{best_none, best_forced, best_both}
 use Rattle.model.specs.TableLaws.{span as span_price}
