@@ -23,7 +23,7 @@ use Rattle.request_log.specs.Cutting.{cut_count}
 use Rattle.model.specs.Rates.{Rates, rates, plain, some?, or_zero, offers}
 use Rattle.model.specs.Sums.{total}
 use Rattle.model.specs.Requests.{Requests, Rising, Within}
-use Rattle.model.specs.Schedule.{Row, hold, move, transfer, upload, Feasible, length_of, is_transfer, is_upload, cost_of}
+use Rattle.model.specs.Schedule.{Row, move, upload, Feasible, length_of, is_transfer, is_upload, cost_of}
 use Rattle.model.specs.RateLaws.{no_upload, no_uploads}
 use Rattle.model.specs.Marking.{Mark, K, S, U, legal, Valid, cost, source, rows}
 use Rattle.model.specs.MarkLaws.{loads_U}

@@ -54,6 +54,7 @@ counted y τ rows = (to rows, λ (a, b, m, h, l). from rows m h l)
         ]
 
     from : {a b : ℕ} (rows : List Row) → Memᴰ (hold y a b) rows → a < τ → τ ≤ b → held_over y τ rows ≡ true
+    from [] m h l = elim m [ ]
     from {a} {b} (r ∷ rows) (Memᴰ.head e) h l = rw (← e, eq-eqb y y refl, lt-ltb a τ h, le-leb τ b l)
     from (r ∷ rows) (Memᴰ.tail m) h l = elim (true_or_false (holds_over y τ r)) [ inl f ↦ rw f | inr f ↦ rw f (from rows m h l) ]
 
