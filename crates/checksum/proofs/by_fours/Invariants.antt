@@ -1,8 +1,6 @@
 -- `checksum::by_fours` meets its contract. Assumes nothing.
-use Rattle.std.proofs.Common.{◌≡◌, ◌+◌, ◌-◌, ◌%◌, ◌≤◌, length, drop, add-one, arith, drop-cons, rules}
-use lib.Seq.{drop-length}
+use Rattle.std.proofs.Common.{◌≡◌, ◌-◌, ◌%◌, ◌≤◌, length, drop}
 use Rattle.checksum.specs.Sum.{sum_from}
-use Rattle.checksum.specs.SumLaws.{four_on}
 use Rattle.checksum.proofs.by_fours.Given as goal
 
 abbrev pub invariant-loop-i : goal.invariant-loop-i

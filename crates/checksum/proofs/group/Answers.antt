@@ -1,5 +1,5 @@
 -- `checksum::group` meets its contract. Assumes nothing.
-use Rattle.std.proofs.Common.{refl, rules}
+use Rattle.std.proofs.Common.{refl}
 use Rattle.checksum.proofs.group.Goals as goal
 
 pub returns : goal.returns

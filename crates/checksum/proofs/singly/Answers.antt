@@ -1,5 +1,5 @@
 -- `checksum::singly` meets its contract. Assumes nothing.
-use Rattle.std.proofs.Common.{◌≡◌, ◌-◌, ◌≤◌, length, drop, add-one, arith, drop-cons, rules}
+use Rattle.std.proofs.Common.{◌≡◌, length, add-one, arith, drop-cons, rules}
 use lib.Seq.{drop-length}
 use Rattle.checksum.specs.Sum.{sum_from}
 use Rattle.checksum.proofs.singly.Goals as goal

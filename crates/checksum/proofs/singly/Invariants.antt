@@ -1,6 +1,5 @@
 -- `checksum::singly` meets its contract. Assumes nothing.
-use Rattle.std.proofs.Common.{◌≡◌, ◌-◌, ◌≤◌, length, drop, add-one, arith, drop-cons, rules}
-use lib.Seq.{drop-length}
+use Rattle.std.proofs.Common.{◌≡◌, ◌-◌, ◌≤◌, length, drop}
 use Rattle.checksum.specs.Sum.{sum_from}
 use Rattle.checksum.proofs.singly.Given as goal
 

@@ -1,5 +1,5 @@
 -- `checksum::sum` meets its contract. Assumes nothing.
-use Rattle.std.proofs.Common.{◌≡◌, ◌-◌, length, take, drop, sym, ◌∙◌, arith, length-drop, length-take-le, take_all, rules}
+use Rattle.std.proofs.Common.{◌≡◌, ◌-◌, length, take, drop, sym, ◌∙◌, arith, length-drop, length-take-le, take_all}
 use Rattle.checksum.specs.Sum.{sum_from}
 use Rattle.checksum.specs.SumLaws.{sum_parts, sum_head, sum_short}
 use Rattle.checksum.proofs.sum.Goals as goal

@@ -1,5 +1,5 @@
 -- `checksum::sum_from` meets its contract. Assumes nothing.
-use Rattle.std.proofs.Common.{◌≡◌, ◌-◌, ◌%◌, length, take, drop, sym, ◌∙◌, arith, length-drop, take_all, rules}
+use Rattle.std.proofs.Common.{◌≡◌, ◌-◌, ◌%◌, length, take, drop, sym, ◌∙◌, arith, length-drop, take_all}
 use native.Mathlib.Nat.{sub-zero}
 use Rattle.checksum.specs.Sum.{sum_from}
 use Rattle.checksum.specs.SumLaws.{sum_cut}

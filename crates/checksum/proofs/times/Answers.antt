@@ -1,5 +1,5 @@
 -- `checksum::times` meets its contract. Assumes nothing.
-use Rattle.std.proofs.Common.{ℕ, ◌*◌, ◌^◌, ◌<◌, ◌≤◌, refl, mul-le-mul, arith, rules}
+use Rattle.std.proofs.Common.{ℕ, ◌*◌, ◌^◌, ◌<◌, ◌≤◌, refl, mul-le-mul, arith}
 use Rattle.checksum.proofs.times.Goals as goal
 
 -- two numbers of 32 bits have a product of 64

@@ -1,6 +1,5 @@
 -- `prices::outside` meets its contract. Assumes nothing.
 use Rattle.prices.specs.Prices.{outside}
-use borrow.Author.Rules.{rules}
 use Rattle.prices.proofs.outside.Goals as goal
 
 pub returns-then-price_outside : goal.returns-then-price_outside

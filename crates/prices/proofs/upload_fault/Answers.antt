@@ -10,3 +10,7 @@ pub returns-then-given : goal.returns-then-given
 unfolding or_else upload_conditions if_given
 returns-then-given c =
     c.or_else.ensures ∙ (ap (λ b. or_else Passed (refuse 44 0 b)) c.price_outside.ensures ∙ rw c.if-given.true)
+
+pub returns : goal.returns
+unfolding first upload_conditions if_given
+returns c = search rules

@@ -1,5 +1,4 @@
 -- `prices::window` meets its contract: a division by 0 is 0 in `window`. Assumes nothing.
-use borrow.Author.Rules.{rules}
 use mathlib.Core.Path.{refl, sym}
 use native.Mathlib.Nat.{div-zero}
 use Rattle.prices.specs.Prices.{window}

@@ -1,17 +1,10 @@
 -- `prices::file::all_inside` meets its contract. Assumes nothing.
 use mathlib.Core.Bool.{false}
-use mathlib.Core.Path.{◌≡◌, refl, sym, ap, ◌∙◌}
-use native.Mathlib.Omega.{arith}
-use native.Mathlib.Numerals.{add-one}
+use mathlib.Core.Path.{◌≡◌}
 use Prim.Native.Nat.{◌≤◌, ◌-◌}
-use borrow.Author.Tests.{not-true}
-use Rattle.base.specs.ChoiceLaws.{either_false}
 use Rattle.base.specs.Refusals.{first, each}
 use Rattle.base.specs.declared.Verdict.TheVariants.{Passed}
-use Rattle.prices.specs.Prices.{outside}
 use Rattle.prices.specs.PriceFile.{class_count, pair_condition}
-use Rattle.prices.specs.FileLaws.{pair_passed}
-use borrow.Author.Rules.{rules}
 use Rattle.prices.proofs.file.all_inside.Given as goal
 
 abbrev pub invariant-loop-class : goal.invariant-loop-class

@@ -2,7 +2,6 @@
 use mathlib.Core.Path.{sym, ◌∙◌}
 use Rattle.prices.specs.PriceFile.{class_count}
 use Rattle.prices.specs.PriceLaws.{table_length}
-use borrow.Author.Rules.{rules}
 use Rattle.prices.proofs.file.class_count.Goals as goal
 
 pub returns : goal.returns

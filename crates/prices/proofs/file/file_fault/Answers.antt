@@ -1,5 +1,4 @@
 -- `prices::file::file_fault` meets its contract. Assumes nothing.
-use borrow.Author.Rules.{rules}
 use mathlib.Core.Path.{sym, ◌∙◌}
 use Rattle.base.specs.RefusalLaws.{first_met, first_failed}
 use Rattle.prices.specs.PriceFile.{form_condition, file_conditions}

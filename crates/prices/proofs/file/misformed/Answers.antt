@@ -1,7 +1,6 @@
 -- `prices::file::misformed` meets its contract. Assumes nothing.
 use borrow.Author.Tests.{eq-eqb, ne_eqb, lt-ltb, le-ltb}
 use Rattle.prices.specs.PriceFile.{class_count}
-use borrow.Author.Rules.{rules}
 use Rattle.prices.proofs.file.misformed.Goals as goal
 
 pub returns-then-file-lt4 : goal.returns-then-file-lt4

@@ -3,7 +3,6 @@ use mathlib.Core.Path.{refl, sym, ◌∙◌}
 use native.Mathlib.Omega.{arith}
 use Rattle.prices.specs.FileLaws.{pair_read}
 use Rattle.prices.specs.PriceLaws.{no_class, table_length, table_at}
-use borrow.Author.Rules.{rules}
 use Rattle.prices.proofs.file.of_class.Goals as goal
 
 pub returns-then-class_count-u16_from_u8 : goal.returns-then-class_count-u16_from_u8

@@ -4,7 +4,6 @@ use native.Mathlib.Omega.{arith}
 use Prim.Native.Nat.{◌+◌, ◌*◌, ◌-◌}
 use Rattle.base.specs.BytesLaws.{le32_part}
 use Rattle.prices.specs.FileLaws.{pair_read}
-use borrow.Author.Rules.{rules}
 use Rattle.prices.proofs.file.pair_at.Goals as goal
 
 pub returns : goal.returns

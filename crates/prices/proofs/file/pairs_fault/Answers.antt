@@ -2,11 +2,9 @@
 use mathlib.Core.Path.{◌≡◌, refl, sym, ap, ◌∙◌}
 use native.Mathlib.Omega.{arith}
 use native.Mathlib.Numerals.{add-one}
-use Prim.Native.Nat.{◌≤◌, ◌-◌}
 use Rattle.base.specs.Refusals.{first, each}
-use Rattle.base.specs.declared.Verdict.TheVariants.{Passed}
 use Rattle.prices.specs.Prices.{outside}
-use Rattle.prices.specs.PriceFile.{class_count, pair_condition}
+use Rattle.prices.specs.PriceFile.{class_count}
 use Rattle.prices.specs.FileLaws.{pair_refused, pair_passed}
 use borrow.Author.Rules.{rules}
 use Rattle.prices.proofs.file.pairs_fault.Goals as goal

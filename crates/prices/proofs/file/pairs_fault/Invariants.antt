@@ -1,14 +1,9 @@
 -- `prices::file::pairs_fault` meets its contract. Assumes nothing.
-use mathlib.Core.Path.{◌≡◌, refl, sym, ap, ◌∙◌}
-use native.Mathlib.Omega.{arith}
-use native.Mathlib.Numerals.{add-one}
+use mathlib.Core.Path.{◌≡◌}
 use Prim.Native.Nat.{◌≤◌, ◌-◌}
 use Rattle.base.specs.Refusals.{first, each}
 use Rattle.base.specs.declared.Verdict.TheVariants.{Passed}
-use Rattle.prices.specs.Prices.{outside}
 use Rattle.prices.specs.PriceFile.{class_count, pair_condition}
-use Rattle.prices.specs.FileLaws.{pair_refused, pair_passed}
-use borrow.Author.Rules.{rules}
 use Rattle.prices.proofs.file.pairs_fault.Given as goal
 
 abbrev pub invariant-loop-class : goal.invariant-loop-class
