@@ -7,14 +7,14 @@ pub mod sets;
 pub mod widths;
 
 // A refusal: its number in the lists of 01 and 02, and its place (0 unless they name one).
-#[derive(Drop)]
+#[derive(Clone, Copy)]
 pub struct Refusal {
     pub number: u8,
     pub place: u64,
 }
 
 // What a list of conditions gives: none held, or the refusal by the first that did.
-#[derive(Drop)]
+#[derive(Clone, Copy)]
 pub enum Verdict {
     Passed,
     Refused(Refusal),

@@ -23,7 +23,7 @@ use request_log::verdict;
 use rows::{Quad, row, seconds, transfers, uploads};
 
 // The seconds held, and the numbers of transfers and uploads.
-#[derive(Drop)]
+#[derive(Clone, Copy)]
 struct Tally {
     seconds: u64,
     transfers: u64,

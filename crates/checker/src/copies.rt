@@ -17,14 +17,14 @@ use base::{Refusal, Verdict};
 use rows::{aimed, member, puts, row, second, starts};
 
 // The set at a second.
-#[derive(Drop)]
+#[derive(Clone, Copy)]
 struct Seen {
     second: u32,
     word: u64,
 }
 
 // The first hold and the first transfer with no copy; past the last row where there is none.
-#[derive(Drop)]
+#[derive(Clone, Copy)]
 struct Faults {
     hold: usize,
     transfer: usize,

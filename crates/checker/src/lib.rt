@@ -12,7 +12,7 @@ use base::Refusal;
 pub use checking::{check, check_uploads, check_uploads_with, check_with};
 
 // The cost of a feasible schedule, or why it is refused.
-#[derive(Drop)]
+#[derive(Clone, Copy)]
 pub enum Checked {
     Cost(u64),
     Refused(Refusal),

@@ -8,7 +8,7 @@ use base::widths::u64_from_u32;
 use rows::{Quad, row, second};
 
 // Rows among which one is sought: from lo on, up to hi.
-#[derive(Drop)]
+#[derive(Clone, Copy)]
 struct Span {
     lo: usize,
     hi: usize,

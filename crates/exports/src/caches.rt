@@ -11,13 +11,13 @@ use request_log::Header;
 
 // A file's id, as a scan brings it.
 #[repr(C)]
-#[derive(Drop)]
+#[derive(Clone, Copy)]
 pub struct Id {
     pub bytes: [u8; 16],
 }
 
 #[repr(C)]
-#[derive(Drop)]
+#[derive(Clone, Copy)]
 pub struct CacheAnswer {
     pub cache: Cache,
     pub answer: Answer,
@@ -25,7 +25,7 @@ pub struct CacheAnswer {
 
 // A scan's answer has the running cost after it too, 0 where it is refused.
 #[repr(C)]
-#[derive(Drop)]
+#[derive(Clone, Copy)]
 pub struct ScanAnswer {
     pub cache: Cache,
     pub answer: Answer,

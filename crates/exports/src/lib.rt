@@ -17,7 +17,7 @@ use base::widths::u32_from_u8;
 
 // An answer in numbers: number 0 and up to two values, or a refusal's number and place.
 #[repr(C)]
-#[derive(Drop)]
+#[derive(Clone, Copy)]
 pub struct Answer {
     pub number: u32,
     pub place: u64,

@@ -13,7 +13,7 @@ use request_log::{Header, ReadOutcome, Written};
 
 // The reader's answer: its value is the number of requests.
 #[repr(C)]
-#[derive(Drop)]
+#[derive(Clone, Copy)]
 pub struct ReadAnswer {
     pub header: Header,
     pub answer: Answer,

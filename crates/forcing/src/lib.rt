@@ -5,7 +5,7 @@ use prices::Prices;
 
 // A game: how many servers, home is 0, and how many requests; a gap has from 1 second to the largest; the prices; the limit p over q. Its layout is C's.
 #[repr(C)]
-#[derive(Drop)]
+#[derive(Clone, Copy)]
 pub struct Game {
     pub servers: u32,
     pub requests: u32,

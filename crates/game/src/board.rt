@@ -7,7 +7,7 @@ use base::widths::size_from_u32;
 
 // The number of requests, their seconds and servers, index 0 is home's copy at second 0; where copies stand; the seconds held and the transfers; for each c
 // the least cost where the gaps above c are covered.
-#[derive(Drop)]
+#[derive(Clone, Copy)]
 pub(crate) struct Board {
     pub count: u32,
     pub seconds: [u32; 4],

@@ -12,7 +12,7 @@ use base::Refusal;
 pub use playing::play;
 
 // Who wins, or the refusal.
-#[derive(Drop)]
+#[derive(Clone, Copy)]
 pub enum Played {
     Keeper,
     Guest,

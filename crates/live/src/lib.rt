@@ -13,7 +13,7 @@ use prices::file_fault;
 use request_log::{Header, header_in, request_place};
 
 // One request: the next state, the letter of the mark, and the running cost.
-#[derive(Drop)]
+#[derive(Clone, Copy)]
 pub struct Turn {
     pub cache: Cache,
     pub mark: u8,

@@ -14,7 +14,7 @@ use prices::Prices;
 
 // The state (01's 'The live keeper'). Every field is public, so that a caller can hand in any state; its layout is C's.
 #[repr(C)]
-#[derive(Drop)]
+#[derive(Clone, Copy)]
 pub struct Cache {
     // the hold and the transfer price (01: keep and send)
     pub prices: Prices,
@@ -40,21 +40,21 @@ pub struct Cache {
 }
 
 // A start is ready, or refused.
-#[derive(Drop)]
+#[derive(Clone, Copy)]
 pub enum StartOutcome {
     Ready,
     Refused(Refusal),
 }
 
 // A start's answer and its state, zeros where it is refused.
-#[derive(Drop)]
+#[derive(Clone, Copy)]
 pub struct Started {
     pub cache: Cache,
     pub outcome: StartOutcome,
 }
 
 // A request found its copy kept (K), or it was sent from a server (S), each with the running cost after it; or it is refused.
-#[derive(Drop)]
+#[derive(Clone, Copy)]
 pub enum ScanOutcome {
     Kept { cost: u64 },
     Sent { source: u16, cost: u64 },
@@ -62,28 +62,28 @@ pub enum ScanOutcome {
 }
 
 // A scan's answer and the next state, the same where it is refused.
-#[derive(Drop)]
+#[derive(Clone, Copy)]
 pub struct Scanned {
     pub cache: Cache,
     pub outcome: ScanOutcome,
 }
 
 // The running cost (01: running bill), or why there is none.
-#[derive(Drop)]
+#[derive(Clone, Copy)]
 pub enum RunningCost {
     Cost(u64),
     Refused(Refusal),
 }
 
 // A close gives the closing cost (02: closing bill), or is refused.
-#[derive(Drop)]
+#[derive(Clone, Copy)]
 pub enum CloseOutcome {
     Cost(u64),
     Refused(Refusal),
 }
 
 // A close's answer and the closed state, the same where it is refused.
-#[derive(Drop)]
+#[derive(Clone, Copy)]
 pub struct Closed {
     pub cache: Cache,
     pub outcome: CloseOutcome,

@@ -16,7 +16,7 @@ use base::sets::{cut, has, put};
 use base::widths::{size_from_u16, u64_from_u32};
 
 // A request while it is served: its second and server, and whether it is K.
-#[derive(Drop)]
+#[derive(Clone, Copy)]
 struct Served {
     second: u32,
     server: u16,

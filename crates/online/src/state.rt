@@ -10,7 +10,7 @@ use base::widths::{u16_from_u8, u64_from_u32};
 use prices::window;
 
 // What a state says of all its servers at once: no last uses.
-#[derive(Drop)]
+#[derive(Clone, Copy)]
 pub struct Outline {
     pub server_count: u16,
     pub last: u16,

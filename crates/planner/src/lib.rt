@@ -16,14 +16,14 @@ pub use planning::{plan, plan_uploads, plan_uploads_with, plan_with};
 use request_log::MOST_REQUESTS;
 
 // The plan's cost and the number of its rows, or why there is no plan.
-#[derive(Drop)]
+#[derive(Clone, Copy)]
 pub enum Planned {
     Plan { cost: u64, rows: u32 },
     Refused(Refusal),
 }
 
 // How many least costs were written, one for each prefix from none to all, or why none was.
-#[derive(Drop)]
+#[derive(Clone, Copy)]
 pub enum LeastCosts {
     Costs(u32),
     Refused(Refusal),

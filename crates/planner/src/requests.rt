@@ -22,7 +22,7 @@ use prices::{Prices, of_class, upload_fault};
 use request_log::{Decoded, ReadOutcome, read_by};
 
 // What a plan is billed by: upload is 0 where no upload price is given.
-#[derive(Drop)]
+#[derive(Clone, Copy)]
 pub struct Fees {
     pub hold: u32,
     pub transfer: u32,
@@ -30,7 +30,7 @@ pub struct Fees {
 }
 
 // What an accepted log says beside its requests: how many they are, how many servers there are, and what its plan is billed by.
-#[derive(Drop)]
+#[derive(Clone, Copy)]
 pub struct Summary {
     pub requests: u16,
     pub server_count: u8,
@@ -38,7 +38,7 @@ pub struct Summary {
 }
 
 // That, or why the log or the upload price is refused.
-#[derive(Drop)]
+#[derive(Clone, Copy)]
 pub enum Loaded {
     Log(Summary),
     Refused(Refusal),

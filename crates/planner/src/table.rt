@@ -15,7 +15,7 @@ use base::widths::{size_from_u16, u64_from_u32};
 use prices::times;
 
 // What a request adds to the cost if it is not kept, and the letter of its mark.
-#[derive(Drop)]
+#[derive(Clone, Copy)]
 pub(crate) struct Away {
     pub(crate) price: u64,
     pub(crate) letter: u8,
@@ -23,7 +23,7 @@ pub(crate) struct Away {
 
 // What a request may be, and what that adds to the cost: the request that it can be kept from (NONE where there is none),
 // whether a transfer may serve it, whether it may be other than K, and what it costs to hold over its span and over the gap before it.
-#[derive(Drop)]
+#[derive(Clone, Copy)]
 pub(crate) struct Terms {
     pub(crate) from: u16,
     pub(crate) sendable: bool,

@@ -18,7 +18,7 @@ use crate::{NONE, PLACES};
 use base::widths::{size_from_u16, u64_from_u32};
 
 // One step back: the letter of a request, and c and v for the requests before it.
-#[derive(Drop)]
+#[derive(Clone, Copy)]
 struct Turn {
     letter: u8,
     c: u16,

@@ -16,7 +16,7 @@ pub use file::{BUILT_IN_LENGTH, built_in, class_count, file_fault, of_class};
 
 // What a class costs: the hold price of a copy and second (01: keep), and the transfer price (01: send). Its layout is C's.
 #[repr(C)]
-#[derive(Drop)]
+#[derive(Clone, Copy)]
 pub struct Prices {
     pub hold: u32,
     pub transfer: u32,

@@ -8,7 +8,7 @@ use base::Refusal;
 pub use quoting::{quote, quote_with};
 
 // The quote, or why the log is refused.
-#[derive(Drop)]
+#[derive(Clone, Copy)]
 pub enum Quoted {
     Cost(u64),
     Refused(Refusal),

@@ -11,7 +11,7 @@ pub use reader::{header_in, read, read_by, read_with};
 pub use requests::{last_second, request_in, request_place};
 
 // What a file is served under: price class, number of servers (01: stations), home server.
-#[derive(Drop)]
+#[derive(Clone, Copy)]
 pub struct Setup {
     pub class: u8,
     pub server_count: u8,
@@ -20,7 +20,7 @@ pub struct Setup {
 
 // What a log says of its file, and a start is given: price class, number of servers (01: stations), home server, file id (01: pass id). Its layout is C's.
 #[repr(C)]
-#[derive(Drop)]
+#[derive(Clone, Copy)]
 pub struct Header {
     pub class: u8,
     pub server_count: u8,
@@ -29,28 +29,28 @@ pub struct Header {
 }
 
 // A request of a log (01: scan).
-#[derive(Drop)]
+#[derive(Clone, Copy)]
 pub struct Request {
     pub second: u32,
     pub server: u16,
 }
 
 // The number of requests read, or why the log is refused.
-#[derive(Drop)]
+#[derive(Clone, Copy)]
 pub enum ReadOutcome {
     Requests(u16),
     Refused(Refusal),
 }
 
 // The reader's answer. A refused log has a header of zeros.
-#[derive(Drop)]
+#[derive(Clone, Copy)]
 pub struct Decoded {
     pub header: Header,
     pub outcome: ReadOutcome,
 }
 
 // The writer's answer: the length of the log, or why it is not written.
-#[derive(Drop)]
+#[derive(Clone, Copy)]
 pub enum Written {
     Length(u64),
     Refused(Refusal),

@@ -19,7 +19,7 @@ use prices::built_in;
 use request_log::{LOG_ROOM, head_fault};
 
 // What is left of a piece goes on with this tally and so many bytes held; so many bytes of the piece were taken.
-#[derive(Drop)]
+#[derive(Clone, Copy)]
 pub struct Taken {
     pub tally: Tally,
     pub held: usize,

@@ -12,7 +12,7 @@ pub use lines::summary;
 pub use steps::{begin, step};
 
 // One log: how it was answered, how many requests it has, its least and its running cost; zeros of a refused one.
-#[derive(Drop)]
+#[derive(Clone, Copy)]
 pub struct Met {
     pub verdict: Verdict,
     pub requests: u16,
@@ -21,7 +21,7 @@ pub struct Met {
 }
 
 // The log with the largest ratio of running to least cost: its place in the input from 1, and both costs; the place is 0 where there is none.
-#[derive(Drop)]
+#[derive(Clone, Copy)]
 pub struct Worst {
     pub place: u64,
     pub running: u32,
@@ -30,7 +30,7 @@ pub struct Worst {
 
 // How many logs were met, accepted, and refused by each number; the totals of least and running cost over the accepted ones; the worst of
 // them; and whether the report has ended.
-#[derive(Drop)]
+#[derive(Clone, Copy)]
 pub struct Tally {
     pub logs: u64,
     pub accepted: u64,
@@ -42,14 +42,14 @@ pub struct Tally {
 }
 
 // The tally of the logs so far, and how many bytes of the next log are held in the room that is lent with it.
-#[derive(Drop)]
+#[derive(Clone, Copy)]
 pub struct Season {
     pub tally: Tally,
     pub held: u64,
 }
 
 // The season after a piece, or as it was where the piece was refused.
-#[derive(Drop)]
+#[derive(Clone, Copy)]
 pub struct Fed {
     pub season: Season,
     pub verdict: Verdict,

@@ -9,7 +9,7 @@ use base::Refusal;
 pub use refusal::{put_refusal, refusal_line};
 
 // The length of what was printed, or why nothing was.
-#[derive(Drop)]
+#[derive(Clone, Copy)]
 pub enum Printed {
     Length(u64),
     Refused(Refusal),
