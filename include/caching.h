@@ -1,4 +1,4 @@
-/* The calls of target/staticlib/libexports.a (rt staticlib exports), for C and C++. Their promises are in crates/exports.
+/* The calls of crates/exports/out/libexports.a (`rt lib` in crates/exports), for C and C++. Their promises are in crates/exports.
  * Server is station, request is scan, transfer is send, cost is bill in the printed page's words.
  *
  * A call whose name ends in _with takes the bytes of a price file, first of its arguments, and judges them each time: 37 and 38 come before all other

@@ -573,9 +573,9 @@ fn season() -> Vec<u8> {
 /// The program beside both Rust versions, each a process that reads the same file, taking turns.
 fn show_season() {
     println!("\n## A season of 4,096 logs, 64 servers and 2,048 requests each\n");
-    let program = PathBuf::from(env!("CARGO_MANIFEST_DIR")).join("../target/bin/season_report");
+    let program = PathBuf::from(env!("CARGO_MANIFEST_DIR")).join("../crates/season_report/out/season_report");
     if !program.exists() {
-        println!("Not measured: `season_report` is not built; `rt check season_report` makes it.");
+        println!("Not measured: `season_report` is not built; `rt run` in crates/season_report makes it.");
         return;
     }
     let season = season();

@@ -135,7 +135,7 @@ play: 46 0 0 0
 /// What c/calls.c prints, built by a compiler as a language and its standard.
 fn printed(compiler: &str, language: &str, standard: &str) -> String {
     let here = Path::new(env!("CARGO_MANIFEST_DIR"));
-    let library = std::env::var("EXPORTS_DIR").map_or(here.join("../target/staticlib"), PathBuf::from);
+    let library = std::env::var("EXPORTS_DIR").map_or(here.join("../crates/exports/out"), PathBuf::from);
     let program = Path::new(env!("CARGO_TARGET_TMPDIR")).join(format!("calls-{standard}"));
     let built = Command::new(compiler)
         .args([&format!("-std={standard}"), "-Wall", "-Wextra", "-Werror", "-O1", "-x", language])

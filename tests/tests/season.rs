@@ -1,4 +1,4 @@
-//! The programs `season_report` and `season_cases`, run as a user would run them, compared with the simple version: target/bin of this repository.
+//! The programs `season_report` and `season_cases`, run as a user would run them, compared with the simple version: crates/NAME/out/NAME.
 //! The second feeds itself its input in pieces of the length that its first two bytes give.
 
 mod programs;

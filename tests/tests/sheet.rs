@@ -1,4 +1,4 @@
-//! The program `sheet`, run as a user would run it, compared with the simple version: target/bin/sheet of this repository.
+//! The program `sheet`, run as a user would run it, compared with the simple version: crates/sheet/out/sheet.
 
 mod one_log;
 mod programs;

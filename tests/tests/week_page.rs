@@ -1,4 +1,4 @@
-//! The program `week_page`, run as a user would run it, compared with the simple version: target/bin/week_page of this repository.
+//! The program `week_page`, run as a user would run it, compared with the simple version: crates/week_page/out/week_page.
 
 mod one_log;
 mod programs;

@@ -1,4 +1,4 @@
-//! The proved library as an implementation of the calls: the static library of `rt staticlib exports`. With a price file a call has another name, and
+//! The proved library as an implementation of the calls: the static library of crate `exports`. With a price file a call has another name, and
 //! so it has with an upload price.
 //!
 //! Nothing checks these declarations against crates/exports/src/lib.rt. A slice crosses as a pointer and a length of its own;
@@ -12,7 +12,7 @@ use reference::prices::{PriceFile, Upload};
 use reference::Refusal;
 
 #[cfg(no_exports)]
-compile_error!("libexports.a is missing: run `rt staticlib exports` at the root of the repository, or name its folder in EXPORTS_DIR");
+compile_error!("libexports.a is missing: run `rt lib` in crates/exports, or name its folder in EXPORTS_DIR");
 
 /// An answer in numbers: a refusal's number and place, or number 0 and up to two values.
 #[repr(C)]

@@ -1,4 +1,4 @@
-//! The programs of target/bin of this repository, run as a user would run them: what the tests of each need, and what is the same for all of them.
+//! The programs, crates/NAME/out/NAME, run as a user would run them: what the tests of each need, and what is the same for all of them.
 
 use std::fs::{self, File};
 use std::io::Write;
@@ -18,7 +18,7 @@ pub struct Program {
 
 pub fn spawn(mut command: Command) -> Child {
     let spawned = command.stdin(Stdio::piped()).stdout(Stdio::piped()).stderr(Stdio::piped()).spawn();
-    spawned.unwrap_or_else(|error| panic!("{command:?}: {error}; `rt check` of a program makes it"))
+    spawned.unwrap_or_else(|error| panic!("{command:?}: {error}; `rt run` in its crate makes it"))
 }
 
 /// What a command prints for an input; it ends with status 0 and writes nothing else.
@@ -46,7 +46,7 @@ pub fn file_with(name: &str, content: &[u8]) -> PathBuf {
 
 impl Program {
     pub fn path(&self) -> PathBuf {
-        PathBuf::from(env!("CARGO_MANIFEST_DIR")).join("../target/bin").join(self.name)
+        PathBuf::from(env!("CARGO_MANIFEST_DIR")).join("../crates").join(self.name).join("out").join(self.name)
     }
 
     pub fn command(&self) -> Command {
