@@ -93,14 +93,14 @@ impl Program {
         child
     }
 
-    /// The reader goes, having read nothing or a part of the text: the system's signal 13 ends the program, and the part is of the text.
+    /// The reader goes, having read nothing or a part of the text: the program writes no more and ends as ever, and the part is of the text.
     pub fn a_reader_that_has_gone(&self, log: &[u8]) {
         for length in [0, 1, 68, 4_000] {
             let mut child = self.with_short_output(log);
             let mut part = vec![0; length];
             child.stdout.take().unwrap().read_exact(&mut part).unwrap();
             let output = child.wait_with_output().unwrap();
-            assert_eq!((output.status.signal(), output.status.code()), (Some(13), None));
+            assert_eq!((output.status.signal(), output.status.code()), (None, Some(0)));
             assert!(output.stderr.is_empty(), "{output:?}");
             assert_eq!(part, (self.printed)(log).as_bytes()[..length]);
         }
