@@ -1,0 +1,20 @@
+-- `rows::kinds::starts` meets its contract. Assumes nothing.
+use mathlib.Core.Bool.{false}
+use mathlib.Core.Path.{◌≡◌, refl}
+use borrow.Author.Tests.{eq-eqb, ne_eqb}
+use Rattle.model.specs.RowForm.{row_of}
+use Rattle.rows.specs.Passes.{starts}
+use Rattle.rows.specs.ReadingLaws.{not_hold}
+use Rattle.rows.proofs.kinds.starts.Goals as goal
+
+pub returns-then-r-ne0 : goal.returns-then-r-ne0
+unfolding starts
+returns-then-r-ne0 c = let a = c.args in not_hold (λ r. false ≡ starts a.t a.x r) _ _ _ _ c.if-r-ne0.true refl refl
+
+pub returns-then-r-x : goal.returns-then-r-x
+unfolding row_of starts
+returns-then-r-x c = rw (eq-eqb _ _ c.if-r-ne0.false, ne_eqb _ _ c.if-r-x.true)
+
+pub returns : goal.returns
+unfolding row_of starts
+returns c = rw (eq-eqb _ _ c.if-r-ne0.false, eq-eqb _ _ c.if-r-x.false)
