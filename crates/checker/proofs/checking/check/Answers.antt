@@ -1,0 +1,12 @@
+-- `checker::checking::check` meets its contract. Assumes nothing.
+use Rattle.prices.specs.FileLaws.{built_in_given, built_in_priced}
+use Rattle.prices.specs.Uploads.{if_given}
+use borrow.Author.Rules.{rules}
+use Rattle.checker.proofs.checking.check.Goals as goal
+
+pub check_by-requires : goal.check_by-requires
+check_by-requires c = built_in_priced _ c.built_in-prices.ensures
+
+pub returns : goal.returns
+unfolding if_given
+returns c = rw (built_in_given _ c.built_in-prices.ensures) c.check_by.ensures

@@ -1,0 +1,18 @@
+-- `planner::holders::row_count` meets its contract: when the loop stands at k, the rows of gaps 1 to k are counted. Assumes nothing.
+use borrow.Author.Rules.{rules}
+use mathlib.Core.Path.{◌≡◌, refl, ◌∙◌}
+use Prim.Native.Nat.{suc, ◌*◌, ◌-◌, ◌≤◌, ◌<◌}
+use native.Mathlib.Omega.{arith}
+use native.Mathlib.Numerals.{add-one}
+use Rattle.model.specs.Sums.{sum}
+use Rattle.planner.specs.HolderWords.{marking}
+use Rattle.planner.specs.RowCount.{begun, sent_at, row_count}
+use Rattle.planner.specs.RowCountLaws.{row_count_more}
+use Rattle.planner.proofs.holders.row_count.Given as goal
+
+abbrev pub invariant-loop-k : goal.invariant-loop-k
+invariant-loop-k l =
+    (l.k ≤ l.end) × (l.end ≡ l.n) × (l.end < 65536) × (l.rows ≤ 65 * l.k) × (l.rows ≡ row_count l.words (marking l.letters) l.k)
+
+abbrev pub decreases-loop-k : goal.decreases-loop-k
+decreases-loop-k l = l.end - l.k

@@ -1,0 +1,22 @@
+-- `planner::rows::put_transfers` meets its contract: when the loop stands at k, the transfers to requests 1 to k are in place. Assumes nothing.
+use borrow.Author.Rules.{rules}
+use mathlib.Core.List.{List}
+use mathlib.Core.Path.{◌≡◌, refl, ap, ◌∙◌}
+use Prim.Native.Nat.{ℕ, ◌+◌, ◌-◌, ◌≤◌}
+use native.Mathlib.Omega.{arith}
+use native.Mathlib.Numerals.{add-one}
+use lib.ListN.{length}
+use Rattle.model.specs.Marking.{transfers}
+use Rattle.planner.specs.HolderWords.{marking}
+use Rattle.planner.specs.RowWriting.{Put, put_none, put_next, put_rows_length}
+use Rattle.planner.specs.Asked.{asks}
+use Rattle.planner.specs.WordRows.{word_source, new_transfer}
+use Rattle.planner.proofs.rows.put_transfers.Given as goal
+
+abbrev pub invariant-loop-k : goal.invariant-loop-k
+invariant-loop-k l =
+    (l.k ≤ l.n) × (l.next ≤ l.at + l.k) × (length l.out ≡ length l.initial.out)
+    × Put l.at (transfers (asks l.times l.servers) (marking l.letters) (word_source (asks l.times l.servers) l.words) l.k) l.initial.out l.next l.out
+
+abbrev pub decreases-loop-k : goal.decreases-loop-k
+decreases-loop-k l = l.n - l.k

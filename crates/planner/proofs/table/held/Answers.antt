@@ -1,0 +1,6 @@
+-- `planner::table::held` meets its contract. Assumes nothing.
+use borrow.Author.Rules.{rules}
+use Rattle.planner.proofs.table.held.Goals as goal
+
+pub returns : goal.returns
+returns c = c.times.ensures
