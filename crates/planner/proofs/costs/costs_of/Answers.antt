@@ -10,7 +10,6 @@ use mathlib.Core.Path.{◌≡◌, ap, ap₂, ◌∙◌}
 use native.Mathlib.Numerals.{add-one}
 use native.Mathlib.Omega.{arith}
 use Prim.Native.Nat.{ℕ, suc, ◌+◌, ◌≤◌}
-use borrow.Author.Rules.{rules}
 use Rattle.planner.specs.Fees.{rated}
 use Rattle.planner.proofs.costs.costs_of.Goals as goal
 

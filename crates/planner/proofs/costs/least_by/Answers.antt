@@ -7,7 +7,6 @@ use Rattle.prices.specs.PriceFile.{table_in}
 use Rattle.prices.specs.Tariff.{tariff}
 use Rattle.prices.specs.Uploads.{if_given}
 use mathlib.Core.Path.{refl}
-use borrow.Author.Rules.{rules}
 use Rattle.planner.proofs.costs.least_by.Goals as goal
 
 pub costs_of-requires : goal.costs_of-requires

@@ -1,7 +1,6 @@
 -- `planner::costs::least_uploads` meets its contract. Assumes nothing.
 use Rattle.prices.specs.FileLaws.{built_in_given, built_in_priced}
 use Rattle.prices.specs.Uploads.{if_given}
-use borrow.Author.Rules.{rules}
 use Rattle.planner.proofs.costs.least_uploads.Goals as goal
 
 pub least_by-requires : goal.least_by-requires

@@ -1,7 +1,6 @@
 -- `planner::costs::least_with` meets its contract. Assumes nothing.
 use Rattle.prices.specs.FileLaws.{judged_priced}
 use Rattle.prices.specs.Uploads.{if_given}
-use borrow.Author.Rules.{rules}
 use Rattle.planner.proofs.costs.least_with.Goals as goal
 
 pub least_by-requires : goal.least_by-requires

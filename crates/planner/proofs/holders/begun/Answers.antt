@@ -1,5 +1,4 @@
 -- `planner::holders::begun` meets its contract: no more servers are in both words than in one. Assumes nothing.
-use borrow.Author.Rules.{rules}
 use native.Mathlib.Omega.{arith}
 use Rattle.base.specs.SetLaws.{members_le}
 use Rattle.planner.specs.RowCountLaws.{members_and}

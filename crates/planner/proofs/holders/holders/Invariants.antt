@@ -1,14 +1,12 @@
 -- `planner::holders::holders` meets its contract: when the loop stands at i, w has the servers kept over gap i + 1, and the words of the gaps above i are in place. Assumes nothing.
-use borrow.Author.Rules.{rules}
-use mathlib.Core.Path.{◌≡◌, ◌∙◌}
+use mathlib.Core.Path.{◌≡◌}
 use Prim.Native.Nat.{suc, ◌-◌, ◌≤◌, min}
-use native.Mathlib.Omega.{arith}
 use Rattle.model.specs.TableLists.{at}
 use Rattle.base.specs.Lists.{build}
 use Rattle.request_log.specs.Sizes.{most_requests}
 use Rattle.planner.specs.Sizes.{places}
 use Rattle.planner.specs.HolderWords.{kept_word, marking}
-use Rattle.planner.specs.GapWordLaws.{words_above, words_none, words_back, words_all, kept_none, kept_back}
+use Rattle.planner.specs.GapWordLaws.{words_above}
 use Rattle.planner.proofs.holders.holders.Given as goal
 
 abbrev pub invariant-loop-i : goal.invariant-loop-i

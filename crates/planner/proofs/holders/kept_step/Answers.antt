@@ -1,5 +1,4 @@
 -- `planner::holders::kept_step` meets its contract: by the sets' `cut` and `put`. Assumes nothing.
-use borrow.Author.Rules.{rules}
 use Rattle.planner.specs.HolderWords.{joined, kept_step}
 use Rattle.planner.proofs.holders.kept_step.Goals as goal
 

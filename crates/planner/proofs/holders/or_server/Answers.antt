@@ -1,5 +1,4 @@
 -- `planner::holders::or_server` meets its contract: a word is empty where it is 0. Assumes nothing.
-use borrow.Author.Rules.{rules}
 use borrow.Author.Tests.{eq-eqb, ne_eqb}
 use Rattle.planner.specs.HolderWords.{joined, or_server}
 use Rattle.planner.proofs.holders.or_server.Goals as goal

@@ -1,13 +1,8 @@
 -- `planner::holders::row_count` meets its contract: when the loop stands at k, the rows of gaps 1 to k are counted. Assumes nothing.
-use borrow.Author.Rules.{rules}
-use mathlib.Core.Path.{◌≡◌, refl, ◌∙◌}
-use Prim.Native.Nat.{suc, ◌*◌, ◌-◌, ◌≤◌, ◌<◌}
-use native.Mathlib.Omega.{arith}
-use native.Mathlib.Numerals.{add-one}
-use Rattle.model.specs.Sums.{sum}
+use mathlib.Core.Path.{◌≡◌}
+use Prim.Native.Nat.{◌*◌, ◌-◌, ◌≤◌, ◌<◌}
 use Rattle.planner.specs.HolderWords.{marking}
-use Rattle.planner.specs.RowCount.{begun, sent_at, row_count}
-use Rattle.planner.specs.RowCountLaws.{row_count_more}
+use Rattle.planner.specs.RowCount.{row_count}
 use Rattle.planner.proofs.holders.row_count.Given as goal
 
 abbrev pub invariant-loop-k : goal.invariant-loop-k

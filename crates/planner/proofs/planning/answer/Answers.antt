@@ -1,5 +1,4 @@
 -- `planner::planning::answer` meets its contract: the two refusals by 31, and the answer written and zeroed beyond. Assumes nothing.
-use borrow.Author.Rules.{rules}
 use mathlib.Core.List.{List}
 use mathlib.Core.Path.{◌≡◌, sym, ap, ◌∙◌}
 use Prim.Native.Nat.{ℕ, ◌*◌}

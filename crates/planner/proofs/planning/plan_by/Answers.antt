@@ -8,7 +8,6 @@ use Rattle.prices.specs.PriceFile.{table_in}
 use Rattle.prices.specs.Tariff.{tariff}
 use Rattle.prices.specs.Uploads.{if_given}
 use mathlib.Core.Path.{refl}
-use borrow.Author.Rules.{rules}
 use Rattle.planner.proofs.planning.plan_by.Goals as goal
 
 pub plan_of-requires : goal.plan_of-requires

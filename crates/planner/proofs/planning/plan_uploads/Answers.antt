@@ -1,7 +1,6 @@
 -- `planner::planning::plan_uploads` meets its contract. Assumes nothing.
 use Rattle.prices.specs.FileLaws.{built_in_given, built_in_priced}
 use Rattle.prices.specs.Uploads.{if_given}
-use borrow.Author.Rules.{rules}
 use Rattle.planner.proofs.planning.plan_uploads.Goals as goal
 
 pub plan_by-requires : goal.plan_by-requires

@@ -1,7 +1,6 @@
 -- `planner::planning::plan_uploads_with` meets its contract. Assumes nothing.
 use Rattle.prices.specs.FileLaws.{judged_priced}
 use Rattle.prices.specs.Uploads.{if_given}
-use borrow.Author.Rules.{rules}
 use Rattle.planner.proofs.planning.plan_uploads_with.Goals as goal
 
 pub plan_by-requires : goal.plan_by-requires

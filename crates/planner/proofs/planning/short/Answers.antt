@@ -1,5 +1,4 @@
 -- `planner::planning::short` meets its contract: the refusal as it is written. Assumes nothing.
-use borrow.Author.Rules.{rules}
 use Rattle.planner.specs.PlanAnswer.{answer_of}
 use Rattle.planner.proofs.planning.short.Goals as goal
 

@@ -1,5 +1,4 @@
 -- `planner::reads::kept` meets its contract: a mark is K where its letter is 75. Assumes nothing.
-use borrow.Author.Rules.{rules}
 use mathlib.Core.Path.{sym, ap, ◌∙◌}
 use Prim.Native.Nat.{ℕ}
 use lib.Dec.{eqb}

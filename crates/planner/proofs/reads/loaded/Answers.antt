@@ -1,5 +1,4 @@
 -- `planner::reads::loaded` meets its contract: a mark is U where its letter is 85. Assumes nothing.
-use borrow.Author.Rules.{rules}
 use mathlib.Core.Path.{sym, ap, ◌∙◌}
 use Prim.Native.Nat.{ℕ}
 use lib.Dec.{eqb}

@@ -1,5 +1,4 @@
 -- `planner::reads::sent` meets its contract: a mark is S where its letter is neither 75 nor 85. Assumes nothing.
-use borrow.Author.Rules.{rules}
 use borrow.Author.Tests.{eq-eqb, ne_eqb}
 use Rattle.planner.specs.GapWordLaws.{sends_letter}
 use Rattle.planner.proofs.reads.sent.Goals as goal

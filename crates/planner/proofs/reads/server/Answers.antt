@@ -1,5 +1,4 @@
 -- `planner::reads::server` meets its contract: past the end `get_or` gives 0. Assumes nothing.
-use borrow.Author.Rules.{rules}
 use mathlib.Core.Path.{sym}
 use lib.ListN.{get_or-eq_default}
 use Rattle.planner.proofs.reads.server.Goals as goal

@@ -2,7 +2,7 @@
 use borrow.Author.Rules.{rules}
 use native.Mathlib.Numerals.{add-one}
 use native.Mathlib.Omega.{arith}
-use Prim.Native.Nat.{ℕ, suc, ◌+◌, ◌-◌, ◌≤◌}
+use Prim.Native.Nat.{ℕ, suc, ◌+◌}
 use lib.ListN.{length, length-set}
 use mathlib.Core.List.{List}
 use mathlib.Core.Path.{◌≡◌, refl, ap, ap₂, ◌∙◌}
@@ -10,7 +10,7 @@ use Rattle.base.specs.Lists.{build, build_length, cleared}
 use Rattle.base.specs.LentLaws.{lent_front}
 use Rattle.model.specs.TableLists.{at}
 use Rattle.planner.specs.Loading.{links}
-use Rattle.model.specs.RecentLaws.{recents, recents_zero, recents_next}
+use Rattle.model.specs.RecentLaws.{recents_zero, recents_next}
 use Rattle.planner.specs.Terms.{index}
 use Rattle.planner.specs.LinkLaws.{links_front, links_next}
 use Rattle.planner.proofs.requests.link.Goals as goal

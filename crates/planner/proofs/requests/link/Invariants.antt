@@ -1,18 +1,11 @@
 -- `planner::requests::link` meets its contract. Assumes nothing.
-use borrow.Author.Rules.{rules}
-use native.Mathlib.Numerals.{add-one}
-use native.Mathlib.Omega.{arith}
-use Prim.Native.Nat.{ℕ, suc, ◌+◌, ◌-◌, ◌≤◌}
-use lib.ListN.{length, length-set}
-use mathlib.Core.List.{List}
-use mathlib.Core.Path.{◌≡◌, refl, ap, ap₂, ◌∙◌}
-use Rattle.base.specs.Lists.{build, build_length, cleared}
-use Rattle.base.specs.LentLaws.{lent_front}
+use Prim.Native.Nat.{suc, ◌-◌, ◌≤◌}
+use lib.ListN.{length}
+use mathlib.Core.Path.{◌≡◌}
 use Rattle.model.specs.TableLists.{at}
-use Rattle.planner.specs.Loading.{links}
-use Rattle.model.specs.RecentLaws.{recents, recents_zero, recents_next}
+use Rattle.model.specs.RecentLaws.{recents}
 use Rattle.planner.specs.Terms.{index}
-use Rattle.planner.specs.LinkLaws.{links_front, links_next}
+use Rattle.planner.specs.LinkLaws.{links_front}
 use Rattle.planner.proofs.requests.link.Given as goal
 
 abbrev pub invariant-loop-i : goal.invariant-loop-i

@@ -1,5 +1,4 @@
 -- `planner::requests::link_one` meets its contract. Assumes nothing.
-use borrow.Author.Rules.{rules}
 use Rattle.planner.proofs.requests.link_one.Goals as goal
 
 pub bounds-recent-y : goal.bounds-recent-y

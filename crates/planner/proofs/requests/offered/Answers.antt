@@ -1,5 +1,4 @@
 -- `planner::requests::offered` meets its contract. Assumes nothing.
-use borrow.Author.Rules.{rules}
 use Rattle.planner.specs.Loading.{loaded}
 use Rattle.planner.proofs.requests.offered.Goals as goal
 

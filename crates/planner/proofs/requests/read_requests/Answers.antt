@@ -1,5 +1,4 @@
 -- `planner::requests::read_requests` meets its contract. Assumes nothing.
-use borrow.Author.Rules.{rules}
 use mathlib.Core.Path.{ap, ◌∙◌}
 use Rattle.base.specs.declared.Verdict.{Verdict}
 use Rattle.prices.specs.PriceFile.{table_in}

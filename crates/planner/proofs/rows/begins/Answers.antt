@@ -1,5 +1,4 @@
 -- `planner::rows::begins` meets its contract: by the three cases of `begins_run`. Assumes nothing.
-use borrow.Author.Rules.{rules}
 use mathlib.Core.Bool.{not}
 use mathlib.Core.Path.{sym, ap, ◌∙◌}
 use native.Mathlib.Omega.{arith}

@@ -1,5 +1,4 @@
 -- `planner::rows::holds` meets its contract: membership in the gap's word. Assumes nothing.
-use borrow.Author.Rules.{rules}
 use mathlib.Core.Path.{◌∙◌}
 use Rattle.planner.specs.WordRows.{holder_at}
 use Rattle.planner.proofs.rows.holds.Goals as goal

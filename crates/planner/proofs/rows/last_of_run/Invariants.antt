@@ -1,13 +1,8 @@
 -- `planner::rows::last_of_run` meets its contract: when the loop stands at e, the run's end from k is that from e. Assumes nothing.
-use borrow.Author.Rules.{rules}
-use mathlib.Core.Path.{◌≡◌, refl, sym, ◌∙◌}
+use mathlib.Core.Path.{◌≡◌}
 use Prim.Native.Nat.{◌-◌}
-use native.Mathlib.Omega.{arith}
-use native.Mathlib.Numerals.{add-one}
-use borrow.Author.Tests.{not-true, not-false}
 use Rattle.model.specs.Marking.{run_end}
 use Rattle.planner.specs.WordRows.{holder_at}
-use Rattle.planner.specs.RowSteps.{run_stops, run_goes, run_last}
 use Rattle.planner.proofs.rows.last_of_run.Given as goal
 
 abbrev pub invariant-loop-e : goal.invariant-loop-e

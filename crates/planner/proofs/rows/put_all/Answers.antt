@@ -1,5 +1,4 @@
 -- `planner::rows::put_all` meets its contract: the holds, then the transfers and the uploads, each from the row after those before them. Assumes nothing.
-use borrow.Author.Rules.{rules}
 use mathlib.Core.List.{List}
 use mathlib.Core.Path.{◌∙◌}
 use Prim.Native.Nat.{ℕ}

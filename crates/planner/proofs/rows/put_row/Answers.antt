@@ -1,5 +1,4 @@
 -- `planner::rows::put_row` meets its contract: four numbers set one after the other, where they fit. Assumes nothing.
-use borrow.Author.Rules.{rules}
 use mathlib.Core.List.{[], ◌∷◌}
 use mathlib.Core.Path.{sym}
 use Prim.Native.Nat.{◌*◌}

@@ -2,13 +2,13 @@
 use borrow.Author.Rules.{rules}
 use mathlib.Core.List.{List}
 use mathlib.Core.Path.{◌≡◌, refl, ap, ◌∙◌}
-use Prim.Native.Nat.{ℕ, ◌+◌, ◌-◌, ◌≤◌}
+use Prim.Native.Nat.{ℕ}
 use native.Mathlib.Omega.{arith}
 use native.Mathlib.Numerals.{add-one}
 use lib.ListN.{length}
 use Rattle.model.specs.Marking.{transfers}
 use Rattle.planner.specs.HolderWords.{marking}
-use Rattle.planner.specs.RowWriting.{Put, put_none, put_next, put_rows_length}
+use Rattle.planner.specs.RowWriting.{put_none, put_next, put_rows_length}
 use Rattle.planner.specs.Asked.{asks}
 use Rattle.planner.specs.WordRows.{word_source, new_transfer}
 use Rattle.planner.proofs.rows.put_transfers.Goals as goal

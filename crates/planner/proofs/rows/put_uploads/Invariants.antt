@@ -1,16 +1,11 @@
 -- `planner::rows::put_uploads` meets its contract: when the loop stands at k, the uploads to requests 1 to k are in place. Assumes nothing.
-use borrow.Author.Rules.{rules}
-use mathlib.Core.List.{List}
-use mathlib.Core.Path.{◌≡◌, refl, ap, ◌∙◌}
-use Prim.Native.Nat.{ℕ, ◌+◌, ◌-◌, ◌≤◌}
-use native.Mathlib.Omega.{arith}
-use native.Mathlib.Numerals.{add-one}
+use mathlib.Core.Path.{◌≡◌}
+use Prim.Native.Nat.{◌+◌, ◌-◌, ◌≤◌}
 use lib.ListN.{length}
 use Rattle.model.specs.Marking.{uploads}
 use Rattle.planner.specs.HolderWords.{marking}
-use Rattle.planner.specs.RowWriting.{Put, put_none, put_next, put_rows_length}
+use Rattle.planner.specs.RowWriting.{Put}
 use Rattle.planner.specs.Asked.{asks}
-use Rattle.planner.specs.WordRows.{new_upload}
 use Rattle.planner.proofs.rows.put_uploads.Given as goal
 
 abbrev pub invariant-loop-k : goal.invariant-loop-k

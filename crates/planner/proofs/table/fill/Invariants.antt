@@ -1,16 +1,9 @@
 -- `planner::table::fill` meets its contract. Assumes nothing.
-use borrow.Author.Rules.{rules}
-use mathlib.Core.Path.{◌≡◌, refl, sym, ap, ◌∙◌}
-use native.Mathlib.Numerals.{add-one}
-use native.Mathlib.Omega.{arith}
-use Prim.Native.Nat.{ℕ, suc, ◌-◌, ◌≤◌}
-use lib.Seq.{drop-set-lt}
-use mathlib.Core.List.{List, ◌++◌}
-use lib.ListN.{length, set, length-set}
-use Rattle.planner.specs.FillLaws.{set_first, costs_front, keeps_front, filled_tabled, costs_more, keeps_more}
-use Rattle.model.specs.TableLists.{lists}
+use mathlib.Core.Path.{◌≡◌}
+use Prim.Native.Nat.{◌-◌, ◌≤◌}
+use lib.ListN.{length}
+use Rattle.planner.specs.FillLaws.{costs_front, keeps_front}
 use Rattle.planner.specs.Asked.{asks}
-use Rattle.planner.specs.Fits.{ready_less}
 use Rattle.planner.specs.Fees.{rated}
 use Rattle.planner.proofs.table.fill.Given as goal
 

@@ -1,5 +1,4 @@
 -- `planner::table::first` meets its contract. Assumes nothing.
-use borrow.Author.Rules.{rules}
 use mathlib.Core.Path.{◌≡◌}
 use native.Mathlib.Omega.{arith}
 use Rattle.model.specs.Leaving.{cheaper_most}

@@ -1,5 +1,4 @@
 -- `planner::table::held` meets its contract. Assumes nothing.
-use borrow.Author.Rules.{rules}
 use Rattle.planner.proofs.table.held.Goals as goal
 
 pub returns : goal.returns

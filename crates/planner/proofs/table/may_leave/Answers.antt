@@ -1,5 +1,4 @@
 -- `planner::table::may_leave` meets its contract. Assumes nothing.
-use borrow.Author.Rules.{rules}
 use Rattle.planner.specs.FeeLaws.{some_given}
 use Rattle.planner.proofs.table.may_leave.Goals as goal
 

@@ -1,5 +1,4 @@
 -- `planner::table::next_cost` meets its contract. Assumes nothing.
-use borrow.Author.Rules.{rules}
 use borrow.Author.Tests.{eq-eqb, ne_eqb}
 use Rattle.planner.specs.Terms.{next_cost}
 use Rattle.planner.proofs.table.next_cost.Goals as goal

@@ -1,5 +1,4 @@
 -- `planner::table::next_least` meets its contract. Assumes nothing.
-use borrow.Author.Rules.{rules}
 use borrow.Author.Tests.{eq-eqb, ne_eqb}
 use Rattle.planner.specs.Terms.{lesser}
 use Rattle.planner.proofs.table.next_least.Goals as goal

@@ -1,5 +1,4 @@
 -- `planner::table::own` meets its contract. Assumes nothing.
-use borrow.Author.Rules.{rules}
 use borrow.Author.Tests.{eq-eqb, ne_eqb}
 use Rattle.planner.specs.Terms.{lesser, own_cost}
 use Rattle.planner.proofs.table.own.Goals as goal

@@ -1,5 +1,4 @@
 -- `planner::table::own_cost` meets its contract. Assumes nothing.
-use borrow.Author.Rules.{rules}
 use Rattle.planner.proofs.table.own_cost.Goals as goal
 
 pub returns : goal.returns

@@ -1,12 +1,12 @@
 -- `planner::table::own_costs` meets its contract. Assumes nothing.
 use borrow.Author.Rules.{rules}
-use mathlib.Core.Path.{◌≡◌, refl, ◌∙◌}
+use mathlib.Core.Path.{refl, ◌∙◌}
 use native.Mathlib.Numerals.{add-one}
 use native.Mathlib.Omega.{arith}
-use Prim.Native.Nat.{suc, ◌-◌, ◌≤◌}
-use lib.ListN.{length, length-set}
+use Prim.Native.Nat.{suc}
+use lib.ListN.{length-set}
 use Rattle.planner.specs.Asked.{asks}
-use Rattle.planner.specs.Fits.{Owned, ready_less}
+use Rattle.planner.specs.Fits.{ready_less}
 use Rattle.planner.specs.StepLaws.{owned_more}
 use Rattle.planner.specs.Fees.{rated}
 use Rattle.planner.proofs.table.own_costs.Goals as goal

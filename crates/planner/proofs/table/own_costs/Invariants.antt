@@ -1,13 +1,9 @@
 -- `planner::table::own_costs` meets its contract. Assumes nothing.
-use borrow.Author.Rules.{rules}
-use mathlib.Core.Path.{◌≡◌, refl, ◌∙◌}
-use native.Mathlib.Numerals.{add-one}
-use native.Mathlib.Omega.{arith}
-use Prim.Native.Nat.{suc, ◌-◌, ◌≤◌}
-use lib.ListN.{length, length-set}
+use mathlib.Core.Path.{◌≡◌}
+use Prim.Native.Nat.{◌-◌, ◌≤◌}
+use lib.ListN.{length}
 use Rattle.planner.specs.Asked.{asks}
-use Rattle.planner.specs.Fits.{Owned, ready_less}
-use Rattle.planner.specs.StepLaws.{owned_more}
+use Rattle.planner.specs.Fits.{Owned}
 use Rattle.planner.specs.Fees.{rated}
 use Rattle.planner.proofs.table.own_costs.Given as goal
 

@@ -1,14 +1,10 @@
 -- `planner::table::row` meets its contract. Assumes nothing.
-use borrow.Author.Rules.{rules}
-use mathlib.Core.Path.{◌≡◌, sym, ◌∙◌}
-use native.Mathlib.Omega.{arith}
+use mathlib.Core.Path.{◌≡◌}
 use Prim.Native.Nat.{◌-◌, ◌≤◌}
 use Rattle.model.specs.TableLists.{at}
-use Rattle.model.specs.TableRows.{row, row_start}
+use Rattle.model.specs.TableRows.{row}
 use Rattle.planner.specs.Asked.{asks}
 use Rattle.planner.specs.Fees.{rated}
-use Rattle.planner.specs.Fits.{row_small}
-use Rattle.planner.specs.StepLaws.{owned_small, row_more}
 use Rattle.planner.proofs.table.row.Given as goal
 
 abbrev pub invariant-loop-k : goal.invariant-loop-k

@@ -1,5 +1,4 @@
 -- `planner::table::shut` meets its contract. Assumes nothing.
-use borrow.Author.Rules.{rules}
 use Rattle.planner.specs.Terms.{away_of, shut_by}
 use Rattle.planner.proofs.table.shut.Goals as goal
 

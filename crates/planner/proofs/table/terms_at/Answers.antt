@@ -1,5 +1,4 @@
 -- `planner::table::terms_at` meets its contract. Assumes nothing.
-use borrow.Author.Rules.{rules}
 use native.Mathlib.Omega.{arith}
 use mathlib.Core.Path.{◌∙◌}
 use Rattle.planner.specs.ReadyLaws.{second_before, link_below, link_second, read_alone, read_after}

@@ -1,5 +1,4 @@
 -- `planner::table::unkept` meets its contract: S where there is no upload price or where S is legal and no dearer. Assumes nothing.
-use borrow.Author.Rules.{rules}
 use borrow.Author.Tests.{eq-eqb, ne_eqb, le-leb, lt-leb, not-true, not-false}
 use native.Mathlib.Nat.{min-eq_left, min-eq_right}
 use native.Mathlib.Omega.{arith}

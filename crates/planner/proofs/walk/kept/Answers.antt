@@ -1,5 +1,4 @@
 -- `planner::walk::kept` meets its contract. Assumes nothing.
-use borrow.Author.Rules.{rules}
 use borrow.Author.Tests.{lt-ltb, le-ltb, eq-eqb, ne_eqb}
 use Rattle.planner.specs.Terms.{kept_by}
 use Rattle.planner.proofs.walk.kept.Goals as goal

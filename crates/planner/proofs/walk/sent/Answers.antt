@@ -1,5 +1,4 @@
 -- `planner::walk::sent` meets its contract. Assumes nothing.
-use borrow.Author.Rules.{rules}
 use borrow.Author.Tests.{lt-ltb, le-ltb}
 use native.Mathlib.Omega.{arith}
 use Rattle.planner.specs.Terms.{sent_by}

@@ -1,5 +1,4 @@
 -- `planner::walk::step_back` meets its contract. Assumes nothing.
-use borrow.Author.Rules.{rules}
 use mathlib.Core.Path.{sym, ◌∙◌}
 use native.Mathlib.Omega.{arith}
 use Rattle.planner.specs.Asked.{asks}

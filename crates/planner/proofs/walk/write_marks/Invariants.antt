@@ -1,18 +1,12 @@
 -- `planner::walk::write_marks` meets its contract: when the loop stands at i, v is the cost of i requests where the gaps above c are covered, and the letters still to be found, before those written, are the whole walk's. Assumes nothing.
-use borrow.Author.Rules.{rules}
 use mathlib.Core.List.{◌++◌}
-use mathlib.Core.Path.{◌≡◌, refl, sym, ap, ◌∙◌}
-use native.Mathlib.Numerals.{add-one}
-use native.Mathlib.Omega.{arith}
-use Prim.Native.Nat.{ℕ, suc, ◌-◌, ◌≤◌}
-use lib.ListN.{length, drop, length-set}
+use mathlib.Core.Path.{◌≡◌}
+use Prim.Native.Nat.{◌≤◌}
+use lib.ListN.{length, drop}
 use Rattle.model.specs.Table.{best}
 use Rattle.model.specs.TableLists.{at}
 use Rattle.planner.specs.Asked.{asks}
-use Rattle.planner.specs.Fits.{ready_less}
-use Rattle.planner.specs.Walked.{Keeps, turned, walked}
-use Rattle.planner.specs.TurnLaws.{turned_right}
-use Rattle.planner.specs.WalkLaws.{walked_step, walked_all}
+use Rattle.planner.specs.Walked.{walked}
 use Rattle.planner.specs.Fees.{rated}
 use Rattle.planner.proofs.walk.write_marks.Given as goal
 

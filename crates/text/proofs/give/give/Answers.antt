@@ -1,5 +1,4 @@
 -- `text::give::give` meets its contract. Assumes nothing.
-use borrow.Author.Rules.{rules}
 use Rattle.text.specs.AnswerLaws.{room_passed, room_refused, given_front}
 use lib.ListN.{length}
 use Rattle.text.specs.Answers.{printed}

@@ -1,5 +1,4 @@
 -- `text::put::put_byte` meets its contract. Assumes nothing.
-use borrow.Author.Rules.{rules}
 use borrow.Author.Tests.{lt-ltb, le-ltb}
 use native.Mathlib.Numerals.{add-one}
 use Rattle.text.specs.Page.{add_byte}

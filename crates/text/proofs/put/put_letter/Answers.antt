@@ -1,5 +1,4 @@
 -- `text::put::put_letter` meets its contract. Assumes nothing.
-use borrow.Author.Rules.{rules}
 use Rattle.text.specs.Lines.{ascii}
 use Rattle.text.specs.Page.{added}
 use mathlib.Core.Path.{◌∙◌}

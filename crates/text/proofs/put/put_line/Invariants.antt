@@ -1,15 +1,10 @@
 -- `text::put::put_line` meets its contract. Assumes nothing.
-use borrow.Author.Rules.{rules}
 use mathlib.Core.List.{map}
-use mathlib.Core.Path.{◌≡◌, refl, ◌∙◌}
+use mathlib.Core.Path.{◌≡◌}
 use Prim.Native.Nat.{◌-◌, ◌≤◌}
-use native.Mathlib.Numerals.{add-one}
-use native.Mathlib.Omega.{arith}
 use lib.ListN.{length, drop}
-use lib.Seq.{drop-length}
 use Rattle.text.specs.Decimal.{decimal}
-use Rattle.text.specs.LineLaws.{figure_parts, fields_next}
-use Rattle.text.specs.Lines.{ascii, line_end}
+use Rattle.text.specs.Lines.{line_end}
 use Rattle.text.specs.Page.{page, added}
 use Rattle.text.proofs.put.put_line.Given as goal
 

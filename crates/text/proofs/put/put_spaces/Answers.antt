@@ -1,10 +1,8 @@
 -- `text::put::put_spaces` meets its contract. Assumes nothing.
 use borrow.Author.Rules.{rules}
 use mathlib.Core.Path.{◌≡◌, refl, sym, ◌∙◌}
-use Prim.Native.Nat.{◌-◌, ◌≤◌}
 use native.Mathlib.Numerals.{add-one}
 use native.Mathlib.Omega.{arith}
-use lib.ListN.{length, replicate}
 use Rattle.text.specs.Page.{page, added}
 use Rattle.text.specs.PageLaws.{added_again}
 use Rattle.text.proofs.put.put_spaces.Goals as goal

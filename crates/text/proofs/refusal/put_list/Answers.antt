@@ -1,7 +1,6 @@
 -- `text::refusal::put_list` meets its contract. Assumes nothing.
-use borrow.Author.Rules.{rules}
 use Rattle.text.specs.RefusalTextLaws.{below_state, in_state, above_state}
-use mathlib.Core.Logic.{⊎_elim}
+use Rattle.text.proofs.refusal.put_list.Goals.{in_default-via-then-number-lt1, in_default-via-else-number-lt1+else-number-lt19+then-number-lt31, in_default-via-else-number-lt1+else-number-lt19+else-number-lt31+else-number-lt36}
 use Rattle.text.specs.Lines.{ascii}
 use Rattle.text.specs.RefusalText.{list_word}
 use native.Mathlib.Omega.{arith}
@@ -18,10 +17,12 @@ returns-in-31-to-35 c = rw (in_state c.args.number (omega arith) (omega arith)) 
 
 pub returns-in_default : goal.returns-in_default
 unfolding ascii
-returns-in_default c = let n = c.args.number in
+returns-in_default c =
+    let n = c.args.number in
     let e : list_word n ≡ ascii "input" =
-    ⊎_elim
-    (λ w. below_state n (omega arith))
-    (λ v. ⊎_elim (λ w. below_state n (omega arith)) (λ w. above_state n (omega arith)) v)
-    c.in_default.branch in
+    elim c.in_default.branch [
+      | in_default-via-then-number-lt1 w ↦ below_state n (omega arith)
+      | in_default-via-else-number-lt1+else-number-lt19+then-number-lt31 w ↦ below_state n (omega arith)
+      | in_default-via-else-number-lt1+else-number-lt19+else-number-lt31+else-number-lt36 w ↦ above_state n (omega arith)
+    ] in
     rw e c.put-in_default.ensures
