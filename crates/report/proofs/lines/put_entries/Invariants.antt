@@ -1,0 +1,21 @@
+-- `report::lines::put_entries` meets its contract. Assumes nothing.
+use borrow.Author.Rules.{rules}
+use Rattle.report.specs.TextLaws.{lines_next, lines_longer}
+use Rattle.report.specs.Text.{entry_lines, columns, entry_of}
+use Rattle.text.specs.Page.{page, added}
+use lib.ListN.{length}
+use native.Mathlib.Omega.{arith}
+use native.Mathlib.Numerals.{add-one}
+use Prim.Native.Nat.{◌*◌, ◌-◌, ◌≤◌}
+use mathlib.Core.Path.{◌≡◌, refl, ◌∙◌}
+use Rattle.report.proofs.lines.put_entries.Given as goal
+
+abbrev pub invariant-loop-i : goal.invariant-loop-i
+invariant-loop-i l =
+    (l.i ≤ l.n)
+    × (length l.text ≡ length l.initial.text)
+    × (page l.to l.text ≡ added (entry_lines (entry_of (columns l.seconds l.servers l.plan l.live l.least l.costs)) l.i) (page l.at l.initial.text))
+    × (length (entry_lines (entry_of (columns l.seconds l.servers l.plan l.live l.least l.costs)) l.i) ≤ 109 * l.i)
+
+abbrev pub decreases-loop-i : goal.decreases-loop-i
+decreases-loop-i l = l.n - l.i
