@@ -4,17 +4,9 @@
 
 use base::sets::{has, nearest};
 use base::widths::{u32_from_u16, u64_from_u16, u64_from_u32};
-use libc::STDOUT_FILENO;
+use std::io;
+use std::io::Print;
 use std::num::wrapping_add_u64;
-
-fn print(text: &[u8]) {
-    io::write_all(STDOUT_FILENO, text);
-}
-
-fn print_number(x: u64) {
-    print(b" ");
-    io::print_decimal(STDOUT_FILENO, x);
-}
 
 fn apart(a: u16, b: u16) -> u16 {
     if a < b {
@@ -87,20 +79,16 @@ fn asked_of(c: Tally, w: u64) -> Tally {
     asked(next, w, 65535)
 }
 
-fn print_tally(name: &[u8], c: Tally) {
-    print(name);
-    print_number(c.asked);
-    print(b" agree");
-    print_number(c.agree);
-    print(b"\n");
+fn print_tally(rt: &impl Print, name: &str, c: Tally) -> io::Result<()> {
+    println!(rt; "{name} {} agree {}", c.asked, c.agree)
 }
 
-fn every_small() {
+fn every_small(rt: &impl Print) -> io::Result<()> {
     let mut c = Tally { asked: 0, agree: 0 };
     for w in 0..256u64 {
         c = asked_of(c, w);
     }
-    print_tally(b"sets of servers 0 to 7:", c);
+    print_tally(rt, "sets of servers 0 to 7:", c)
 }
 
 // The next word of a fixed sequence.
@@ -123,14 +111,14 @@ fn thinned(x: u64, n: u32) -> u64 {
     w
 }
 
-fn every_drawn() {
+fn every_drawn(rt: &impl Print) -> io::Result<()> {
     let mut c = Tally { asked: 0, agree: 0 };
     let mut x: u64 = 88172645463325252;
     for i in 0..600u32 {
         x = drawn(x);
         c = asked_of(c, thinned(x, i % 6));
     }
-    print_tally(b"drawn sets of 64 servers:", c);
+    print_tally(rt, "drawn sets of 64 servers:", c)
 }
 
 // None; the number itself; both sides, equally far and not; one side alone; the ends of a word; numbers past it.
@@ -151,22 +139,18 @@ const WORDS: [u64; 12] = [
 
 const NUMBERS: [u16; 12] = [3, 2, 3, 2, 4, 5, 1, 31, 32, 63, 64, 65535];
 
-fn show(k: usize) {
+fn show(rt: &impl Print, k: usize) -> io::Result<()> {
     if 12 <= k {
-        return;
+        return Ok(());
     }
-    print(b"nearest");
-    print_number(WORDS[k]);
-    print_number(u64_from_u16(NUMBERS[k]));
-    print(b":");
-    print_number(u64_from_u32(nearest(WORDS[k], NUMBERS[k])));
-    print(b"\n");
+    let member = nearest(WORDS[k], NUMBERS[k]);
+    println!(rt; "nearest {} {}: {member}", WORDS[k], NUMBERS[k])
 }
 
-fn main() {
+fn main(rt: HostRuntime) -> io::Result<()> {
     for k in 0..12 {
-        show(k);
+        show(&rt, k)?;
     }
-    every_small();
-    every_drawn();
+    every_small(&rt)?;
+    every_drawn(&rt)
 }
