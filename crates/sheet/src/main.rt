@@ -3,19 +3,22 @@
 #![tactic(auto)]
 
 ghost use Rattle.std.specs.Prelude.{◌≡◌, ◌≤◌, ◌<◌, length, take};
-ghost use Rattle.io.specs.Counts.{IsPrefixLen};
 ghost use Rattle.prices.specs.PriceFile.{built_in_bytes};
 ghost use Rattle.prices.specs.Tariff.{price_file};
 ghost use Rattle.request_log.specs.Sizes.{log_limit};
 ghost use Rattle.report.specs.Sizes.{sheet_room};
 ghost use Rattle.report.specs.Output.{output, price_limit};
+ghost use Rattle.streams.specs.Counts.{IsPrefixLen};
 
 use base::bytes::copy;
 use base::widths::size_from_u64;
-use libc::{STDIN_FILENO, STDOUT_FILENO};
 use prices::{BUILT_IN_LENGTH, built_in};
 use report::{PRICE_LIMIT, SHEET_ROOM, sheet_with};
 use request_log::LOG_LIMIT;
+use std::env::{Env, FillError};
+use std::fs;
+use std::fs::Files;
+use streams::read_full;
 use text::{Printed, put_refusal};
 
 // Room for the longest log and one byte more, so that a longer input is refused as it would be whole.
@@ -39,26 +42,40 @@ fn room() -> [u8; SHEET_ROOM]
     [0u8; SHEET_ROOM]
 }
 
-// As much of a file as there is room for, and its length. A file that cannot be opened is empty, and one that cannot be read on ends there.
-fn read_file(name: &[u8], bytes: &mut [u8]) -> usize
+// Bytes that hold any name of a file, and the zero after it for the system.
+const NAME_ROOM: usize = 4096;
+
+// How many words the command has, the program's own name the first.
+fn word_count(rt: &impl Env) -> usize {
+    for i in 0..usize::MAX {
+        if let Err(FillError::NotPresent) = rt.arg(i, &mut []) {
+            return i;
+        }
+    }
+    usize::MAX
+}
+
+// As much of a file as there is room for, and its length. A file that cannot be opened is empty, and one that cannot be read on ends there. The names of
+// files are UTF-8, so any other is one that no file has.
+fn read_file(rt: &impl Files, name: &[u8], bytes: &mut [u8]) -> usize
     ensures { IsPrefixLen result bytes.new }
 {
-    let file = os::open_read(name);
-    if file < 0 {
+    let Ok(name) = str::from_utf8(name) else {
         return 0;
+    };
+    match fs::open(rt, name) {
+        Ok(mut file) => read_full(&mut file, bytes).0,
+        Err(_) => 0,
     }
-    let n = io::read_full(file, bytes);
-    libc::close(file);
-    n
 }
 
 // The same for the file that the first argument names. A name too long for any file comes as an empty one, which no file has.
-fn read_named(bytes: &mut [u8]) -> usize
+fn read_named(rt: &(impl Files + Env), bytes: &mut [u8]) -> usize
     ensures { IsPrefixLen result bytes.new }
 {
-    let mut name = io::buffer();
-    let n = os::arg(1, &mut name);
-    read_file(&name[..n], bytes)
+    let mut name = [0u8; NAME_ROOM];
+    let n = rt.arg(1, &mut name).unwrap_or(0);
+    read_file(rt, &name[..n], bytes)
 }
 
 // The built-in table, at the front.
@@ -73,7 +90,7 @@ fn give_built_in(bytes: &mut [u8]) -> usize
 
 // The price file of a command of so many words, the program's own name the first: the built-in table where no other is given, the file that a second
 // one names, and an empty file, which is refused, where there are more.
-fn price_file(words: usize, bytes: &mut [u8]) -> usize
+fn price_file(rt: &(impl Files + Env), words: usize, bytes: &mut [u8]) -> usize
     requires { price_limit ≡ length bytes.old }
     ensures prefix_len { IsPrefixLen result bytes.new }
     ensures bytes_after { words < 2 → take result bytes.new ≡ built_in_bytes }
@@ -85,7 +102,7 @@ fn price_file(words: usize, bytes: &mut [u8]) -> usize
     if 2 < words {
         return 0;
     }
-    read_named(bytes)
+    read_named(rt, bytes)
 }
 
 // All that is written for a price file and an input, the sheet or the line of a refusal, and its length.
@@ -102,12 +119,12 @@ fn answer(prices: &[u8], log: &[u8], text: &mut [u8]) -> usize
 
 // The price file comes first, so that it is closed before the input is read. An input that cannot be read counts as ended there; where the output cannot
 // be written nothing more is done.
-fn main() {
+fn main(rt: HostRuntime) {
     let mut prices = price_input();
-    let m = price_file(os::arg_count(), &mut prices);
+    let m = price_file(&rt, word_count(&rt), &mut prices);
     let mut log = input();
-    let n = io::read_full(STDIN_FILENO, &mut log);
+    let (n, _) = read_full(&mut rt.stdin(), &mut log);
     let mut text = room();
     let end = answer(&prices[..m], &log[..n], &mut text);
-    io::write_all(STDOUT_FILENO, &text[..end]);
+    let _ = rt.write_all(&text[..end]);
 }
