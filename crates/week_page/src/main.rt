@@ -2,15 +2,15 @@
 #![tactic(auto)]
 
 ghost use Rattle.std.specs.Prelude.{◌≡◌, ◌≤◌, length, take};
-ghost use Rattle.io.specs.Counts.{IsPrefixLen};
 ghost use Rattle.prices.specs.Tariff.{built_in};
 ghost use Rattle.request_log.specs.Sizes.{log_limit};
+ghost use Rattle.streams.specs.Counts.{IsPrefixLen};
 ghost use Rattle.week.specs.Pages.{page_output};
 ghost use Rattle.week.specs.PageLength.{page_room};
 
 use base::widths::size_from_u64;
-use libc::{STDIN_FILENO, STDOUT_FILENO};
 use request_log::LOG_LIMIT;
+use streams::read_full;
 use text::{Printed, put_refusal};
 use week::{PAGE_ROOM, page};
 
@@ -41,10 +41,10 @@ fn answer(log: &[u8], text: &mut [u8]) -> usize
 }
 
 // An input that cannot be read counts as ended there; where the output cannot be written nothing more is done.
-fn main() {
+fn main(rt: HostRuntime) {
     let mut log = input();
-    let n = io::read_full(STDIN_FILENO, &mut log);
+    let (n, _) = read_full(&mut rt.stdin(), &mut log);
     let mut text = room();
     let end = answer(&log[..n], &mut text);
-    io::write_all(STDOUT_FILENO, &text[..end]);
+    let _ = rt.write_all(&text[..end]);
 }
