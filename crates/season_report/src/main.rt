@@ -2,17 +2,17 @@
 #![tactic(auto)]
 
 ghost use Rattle.std.specs.Prelude.{◌≡◌, ◌≤◌, length, take};
-ghost use Rattle.io.specs.Counts.{IsPrefixLen};
 ghost use Rattle.prices.specs.Tariff.{built_in};
 ghost use Rattle.request_log.specs.Sizes.{log_room};
 ghost use Rattle.season.specs.ReportText.{report_room, report_text};
 ghost use Rattle.season.specs.Steps.{finished};
 ghost use Rattle.season.specs.Answers.{gathered_in};
+ghost use Rattle.streams.specs.Counts.{IsPrefixLen};
 
 use base::widths::size_from_u64;
-use libc::{STDIN_FILENO, STDOUT_FILENO};
 use request_log::LOG_ROOM;
 use season::{MOST_BYTES, REPORT_ROOM, Season, begin, feed, finish, summary};
+use std::io::Read;
 use text::Printed;
 
 // Bytes that one read gives at most: with the room of one log all that is kept of an input.
@@ -32,8 +32,15 @@ fn paper() -> [u8; REPORT_ROOM]
     [0u8; REPORT_ROOM]
 }
 
+// One read, which gives a byte or more, but for the end. One that fails counts as the end.
+fn read_some<R: Read>(input: &mut R, piece: &mut [u8]) -> usize
+    ensures { IsPrefixLen result piece.new }
+{
+    input.read(piece).unwrap_or(0)
+}
+
 // The input as it comes, up to its end or that of the report. Each read gives a byte or more.
-fn read_all(room: &mut [u8]) -> Season {
+fn read_all<R: Read>(input: &mut R, room: &mut [u8]) -> Season {
     let mut piece = [0u8; PIECE];
     let mut season = Season {
         tally: begin(),
@@ -41,7 +48,7 @@ fn read_all(room: &mut [u8]) -> Season {
     };
     let mut reads: u64 = 0;
     while reads < MOST_BYTES {
-        let n = io::count(libc::read(STDIN_FILENO, &mut piece), &piece);
+        let n = read_some(input, &mut piece);
         if n == 0 {
             return season;
         }
@@ -68,10 +75,10 @@ fn answer(season: Season, room: &[u8], text: &mut [u8]) -> usize
 }
 
 // An input that cannot be read counts as ended there; where the output cannot be written nothing more is done.
-fn main() {
+fn main(rt: HostRuntime) {
     let mut held = room();
-    let season = read_all(&mut held);
+    let season = read_all(&mut rt.stdin(), &mut held);
     let mut text = paper();
     let end = answer(season, &held, &mut text);
-    io::write_all(STDOUT_FILENO, &text[..end]);
+    let _ = rt.write_all(&text[..end]);
 }
