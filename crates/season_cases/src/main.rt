@@ -7,9 +7,10 @@ ghost use Rattle.season.specs.ReportText.{report_room};
 
 use base::bytes::at16;
 use base::widths::{size_from_u16, size_from_u64};
-use libc::{STDIN_FILENO, STDOUT_FILENO};
 use request_log::LOG_ROOM;
 use season::{MOST_BYTES, REPORT_ROOM, Season, begin, feed, finish, summary};
+use std::io::{Print, Read};
+use streams::read_full;
 use text::Printed;
 
 // Room for any log.
@@ -27,12 +28,12 @@ fn paper() -> [u8; REPORT_ROOM]
 }
 
 // The length of a piece, at least 1 and no more than there is room for.
-fn piece_length(most: usize) -> usize
+fn piece_length<R: Read>(input: &mut R, most: usize) -> usize
     requires { 1 ≤ most }
     ensures { (1 ≤ result) × (result ≤ most) }
 {
     let mut bytes = [0u8; 2];
-    io::read_full(STDIN_FILENO, &mut bytes);
+    let _ = read_full(input, &mut bytes);
     let named = size_from_u16(at16(&bytes, 0));
     if named == 0 {
         return 1;
@@ -44,14 +45,14 @@ fn piece_length(most: usize) -> usize
 }
 
 // The input in such pieces, up to its end or that of the report. Each but the last has a byte or more.
-fn read_all(piece: &mut [u8], room: &mut [u8]) -> Season {
+fn read_all<R: Read>(input: &mut R, piece: &mut [u8], room: &mut [u8]) -> Season {
     let mut season = Season {
         tally: begin(),
         held: 0,
     };
     let mut reads: u64 = 0;
     while reads < MOST_BYTES {
-        let n = io::read_full(STDIN_FILENO, piece);
+        let (n, _) = read_full(input, piece);
         let fed = feed(season, room, &piece[..n]);
         season = fed.season;
         if n < piece.len() {
@@ -65,26 +66,27 @@ fn read_all(piece: &mut [u8], room: &mut [u8]) -> Season {
     season
 }
 
-// The front of a text.
-fn print(text: &[u8], n: usize) {
+// The front of a text. Where it cannot be written nothing more is done.
+fn print(rt: &impl Print, text: &[u8], n: usize) {
     if n <= text.len() {
-        io::write_all(STDOUT_FILENO, &text[..n]);
+        let _ = rt.write_all(&text[..n]);
     }
 }
 
-fn show(printed: Printed, text: &[u8]) {
+fn show(rt: &impl Print, printed: Printed, text: &[u8]) {
     match printed {
-        Printed::Length(n) => print(text, size_from_u64(n)),
-        Printed::Refused(_) => print(text, 0),
+        Printed::Length(n) => print(rt, text, size_from_u64(n)),
+        Printed::Refused(_) => print(rt, text, 0),
     }
 }
 
-fn main() {
+fn main(rt: HostRuntime) {
+    let mut stdin = rt.stdin();
     let mut space = room();
-    let size = piece_length(LOG_ROOM);
+    let size = piece_length(&mut stdin, LOG_ROOM);
     let mut held = room();
-    let season = read_all(&mut space[..size], &mut held);
+    let season = read_all(&mut stdin, &mut space[..size], &mut held);
     let mut text = paper();
     let printed = summary(finish(season, &held), &mut text);
-    show(printed, &text);
+    show(&rt, printed, &text);
 }
