@@ -4,36 +4,23 @@
 
 use base::Refusal;
 use checker::Checked;
-use libc::STDOUT_FILENO;
 use request_log::Header;
+use std::io;
+use std::io::Print;
 
-fn print(text: &[u8]) {
-    io::write_all(STDOUT_FILENO, text);
+fn print_refusal(rt: &impl Print, r: Refusal) -> io::Result<()> {
+    println!(rt; ": refused {} {}", r.number, r.place)
 }
 
-fn print_number(x: u64) {
-    io::write_all(STDOUT_FILENO, b" ");
-    io::print_decimal(STDOUT_FILENO, x);
+fn print_cost(rt: &impl Print, cost: u64) -> io::Result<()> {
+    println!(rt; ": cost {cost}")
 }
 
-fn print_refusal(r: Refusal) {
-    print(b": refused");
-    print_number(r.number as u64);
-    print_number(r.place);
-    print(b"\n");
-}
-
-fn print_cost(cost: u64) {
-    print(b": cost");
-    print_number(cost);
-    print(b"\n");
-}
-
-fn show(log: &[u8], rows: &[u32]) {
+fn show(rt: &impl Print, log: &[u8], rows: &[u32]) -> io::Result<()> {
     let c = checker::check(log, rows);
     match c {
-        Checked::Cost(cost) => print_cost(cost),
-        Checked::Refused(r) => print_refusal(r),
+        Checked::Cost(cost) => print_cost(rt, cost),
+        Checked::Refused(r) => print_refusal(rt, r),
     }
 }
 
@@ -106,14 +93,20 @@ fn sample(i: usize) -> [u8; 52] {
     written(SECONDS[i], SERVERS[i], REQUESTS[i])
 }
 
-fn show_first(log: [u8; 52], bytes: usize, rows: [u32; 14], n: usize) {
+fn show_first(
+    rt: &impl Print,
+    log: [u8; 52],
+    bytes: usize,
+    rows: [u32; 14],
+    n: usize,
+) -> io::Result<()> {
     if 52 < bytes {
-        return;
+        return Ok(());
     }
     if 12 < n {
-        return;
+        return Ok(());
     }
-    show(&log[..bytes], &rows[2..n + 2]);
+    show(rt, &log[..bytes], &rows[2..n + 2])
 }
 
 fn length_of(i: usize) -> usize {
@@ -127,22 +120,21 @@ fn length_of(i: usize) -> usize {
     40 + 6 * n
 }
 
-fn case(row: [u32; 14]) {
+fn case(rt: &impl Print, row: [u32; 14]) -> io::Result<()> {
     let i = row[0] as usize;
     let n = row[1] as usize;
-    print(b"log");
-    print_number(row[0] as u64);
-    print(b" rows");
+    print!(rt; "log {} rows", row[0])?;
     for k in 0..12 {
         if k < n {
-            print_number(row[k + 2] as u64);
+            print!(rt; " {}", row[k + 2])?;
         }
     }
-    show_first(sample(i), length_of(i), row, n);
+    show_first(rt, sample(i), length_of(i), row, n)
 }
 
-fn main() {
+fn main(rt: HostRuntime) -> io::Result<()> {
     for k in 0..31 {
-        case(CASES[k]);
+        case(&rt, CASES[k])?;
     }
+    Ok(())
 }
