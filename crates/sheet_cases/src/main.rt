@@ -5,19 +5,11 @@
 #![tactic(auto)]
 
 use base::{Refusal, Verdict};
-use libc::STDOUT_FILENO;
 use request_log::{Header, LOG_LIMIT};
 use season::Season;
+use std::io;
+use std::io::Print;
 use text::Printed;
-
-fn print(text: &[u8]) {
-    io::write_all(STDOUT_FILENO, text);
-}
-
-fn print_number(x: u64) {
-    io::write_all(STDOUT_FILENO, b" ");
-    io::print_decimal(STDOUT_FILENO, x);
-}
 
 // Never zero nor ASCII, and another at each place.
 fn noise(i: usize) -> u8 {
@@ -59,53 +51,45 @@ fn left(text: &[u8], from: usize) -> usize {
 }
 
 // What follows the first n bytes.
-fn show_rest(text: &[u8], n: usize) {
+fn show_rest(rt: &impl Print, text: &[u8], n: usize) -> io::Result<()> {
     let end = zeros(text, n);
-    print(b", zeros to");
-    print_number(end as u64);
-    print(b", noise to");
-    print_number(left(text, end) as u64);
+    let noise_end = left(text, end);
+    print!(rt; ", zeros to {end}, noise to {noise_end}")
 }
 
-fn show_refused(r: Refusal, text: &[u8]) {
-    print(b": refused");
-    print_number(r.number as u64);
-    print_number(r.place);
-    show_rest(text, 0);
-    print(b"\n");
+fn show_refused(rt: &impl Print, r: Refusal, text: &[u8]) -> io::Result<()> {
+    print!(rt; ": refused {} {}", r.number, r.place)?;
+    show_rest(rt, text, 0)?;
+    println!(rt;)
 }
 
-fn show_printed(length: u64, text: &[u8], between: &[u8]) {
-    print(b": length");
-    print_number(length);
+fn show_printed(rt: &impl Print, length: u64, text: &[u8], between: &str) -> io::Result<()> {
+    print!(rt; ": length {length}")?;
     let n = length as usize;
-    show_rest(text, n);
-    print(between);
+    show_rest(rt, text, n)?;
+    rt.print(between)?;
     if n <= text.len() {
-        print(&text[..n]);
+        return rt.write_all(&text[..n]);
     }
+    Ok(())
 }
 
-fn show(printed: Printed, text: &[u8; 128], between: &[u8]) {
+fn show(rt: &impl Print, printed: Printed, text: &[u8; 128], between: &str) -> io::Result<()> {
     match printed {
-        Printed::Length(n) => show_printed(n, text, between),
-        Printed::Refused(r) => show_refused(r, text),
+        Printed::Length(n) => show_printed(rt, n, text, between),
+        Printed::Refused(r) => show_refused(rt, r, text),
     }
 }
 
-fn line_case(number: u8, place: u64, room: usize) {
+fn line_case(rt: &impl Print, number: u8, place: u64, room: usize) -> io::Result<()> {
     let mut text = noisy();
     if 128 < room {
-        return;
+        return Ok(());
     }
-    print(b"refusal");
-    print_number(number as u64);
-    print_number(place);
-    print(b" in");
-    print_number(room as u64);
+    print!(rt; "refusal {number} {place} in {room}")?;
     let refusal = Refusal { number, place };
     let printed = text::refusal_line(refusal, &mut text[..room]);
-    show(printed, &text, b": ");
+    show(rt, printed, &text, ": ")
 }
 
 // A refusal's number and place, and one byte less than its line has.
@@ -132,27 +116,25 @@ fn low8(x: u64) -> u8 {
     (x % 256) as u8
 }
 
-fn line_cases(row: [u64; 3]) {
+fn line_cases(rt: &impl Print, row: [u64; 3]) -> io::Result<()> {
     let number = low8(row[0]);
     let short = row[2] as usize;
     if 124 < short {
-        return;
+        return Ok(());
     }
-    line_case(number, row[1], short);
-    line_case(number, row[1], short + 1);
-    line_case(number, row[1], short + 4);
+    line_case(rt, number, row[1], short)?;
+    line_case(rt, number, row[1], short + 1)?;
+    line_case(rt, number, row[1], short + 4)
 }
 
-fn sheet_case(name: &[u8], log: &[u8], room: usize) {
+fn sheet_case(rt: &impl Print, name: &str, log: &[u8], room: usize) -> io::Result<()> {
     let mut text = noisy();
     if 128 < room {
-        return;
+        return Ok(());
     }
-    print(name);
-    print(b" in");
-    print_number(room as u64);
+    print!(rt; "{name} in {room}")?;
     let printed = report::sheet(log, &mut text[..room]);
-    show(printed, &text, b"\n");
+    show(rt, printed, &text, "\n")
 }
 
 fn header() -> Header {
@@ -186,53 +168,44 @@ fn damaged(log: [u8; 64]) -> [u8; 64] {
     next
 }
 
-fn sheet_cases() {
+fn sheet_cases(rt: &impl Print) -> io::Result<()> {
     let log = case_c();
-    sheet_case(b"case C", &log, 122);
-    sheet_case(b"case C", &log, 123);
-    sheet_case(b"case C", &log, 126);
+    sheet_case(rt, "case C", &log, 122)?;
+    sheet_case(rt, "case C", &log, 123)?;
+    sheet_case(rt, "case C", &log, 126)?;
     let other = damaged(log);
-    sheet_case(b"case C damaged", &other, 122);
-    sheet_case(b"case C damaged", &other, 126);
+    sheet_case(rt, "case C damaged", &other, 122)?;
+    sheet_case(rt, "case C damaged", &other, 126)?;
     let empty = no_request();
-    sheet_case(b"no request", &empty, 56);
-    sheet_case(b"no request", &empty, 57);
-    sheet_case(b"no request", &empty, 60);
+    sheet_case(rt, "no request", &empty, 56)?;
+    sheet_case(rt, "no request", &empty, 57)?;
+    sheet_case(rt, "no request", &empty, 60)
 }
 
-fn report_case(room: usize) {
+fn report_case(rt: &impl Print, room: usize) -> io::Result<()> {
     let mut text = noisy();
     if 128 < room {
-        return;
+        return Ok(());
     }
-    print(b"no logs in");
-    print_number(room as u64);
+    print!(rt; "no logs in {room}")?;
     let printed = season::summary(season::begin(), &mut text[..room]);
-    show(printed, &text, b"\n");
+    show(rt, printed, &text, "\n")
 }
 
-fn show_held(held: u64) {
-    print(b": holds");
-    print_number(held);
-    print(b"\n");
+fn show_held(rt: &impl Print, held: u64) -> io::Result<()> {
+    println!(rt; ": holds {held}")
 }
 
-fn show_unfed(r: Refusal) {
-    print(b": refused");
-    print_number(r.number as u64);
-    print_number(r.place);
-    print(b"\n");
+fn show_unfed(rt: &impl Print, r: Refusal) -> io::Result<()> {
+    println!(rt; ": refused {} {}", r.number, r.place)
 }
 
-fn feed_case(held: u64, length: usize) {
+fn feed_case(rt: &impl Print, held: u64, length: usize) -> io::Result<()> {
     let mut room = [0u8; LOG_LIMIT];
     if LOG_LIMIT < length {
-        return;
+        return Ok(());
     }
-    print(b"held");
-    print_number(held);
-    print(b" in");
-    print_number(length as u64);
+    print!(rt; "held {held} in {length}")?;
     let season = Season {
         tally: season::begin(),
         held,
@@ -242,27 +215,27 @@ fn feed_case(held: u64, length: usize) {
     let next = fed.season;
     let verdict = fed.verdict;
     match verdict {
-        Verdict::Passed => show_held(next.held),
-        Verdict::Refused(r) => show_unfed(r),
+        Verdict::Passed => show_held(rt, next.held),
+        Verdict::Refused(r) => show_unfed(rt, r),
     }
 }
 
-fn season_cases() {
-    report_case(28);
-    report_case(29);
-    report_case(32);
-    feed_case(12327, 12328);
-    feed_case(12328, 12328);
-    feed_case(12328, 12327);
-    feed_case(0, 12327);
-    feed_case(0, 12328);
-    feed_case(0, 12329);
+fn season_cases(rt: &impl Print) -> io::Result<()> {
+    report_case(rt, 28)?;
+    report_case(rt, 29)?;
+    report_case(rt, 32)?;
+    feed_case(rt, 12327, 12328)?;
+    feed_case(rt, 12328, 12328)?;
+    feed_case(rt, 12328, 12327)?;
+    feed_case(rt, 0, 12327)?;
+    feed_case(rt, 0, 12328)?;
+    feed_case(rt, 0, 12329)
 }
 
-fn main() {
+fn main(rt: HostRuntime) -> io::Result<()> {
     for k in 0..16 {
-        line_cases(LINES[k]);
+        line_cases(&rt, LINES[k])?;
     }
-    sheet_cases();
-    season_cases();
+    sheet_cases(&rt)?;
+    season_cases(&rt)
 }
