@@ -5,6 +5,8 @@ use crate::say;
 use crate::small::{after, previous, second};
 use base::widths::u64_from_u32;
 use prices::Prices;
+use std::io;
+use std::io::Print;
 use std::num::{wrapping_add_u64, wrapping_sub_u64};
 
 const SECONDS: [u32; 8] = [0, 5, 8, 11, 14, 26, 32, 40];
@@ -51,74 +53,74 @@ fn candidate(prices: Prices, costs: &[u64; 8], i: usize) -> u64 {
     wrapping_add_u64(wrapping_add_u64(costs[i], span), between)
 }
 
-fn say_costs(costs: &[u64; 8]) {
-    say::text(b"C");
+fn say_costs(rt: &impl Print, costs: &[u64; 8]) -> io::Result<()> {
+    print!(rt; "C")?;
     for i in 1..8 {
-        say::number(costs[i]);
+        say::number(rt, costs[i])?;
     }
-    say::end_line();
+    say::end_line(rt)
 }
 
 // D(i): the least cost of the first i requests with the last of them kept.
-fn say_kept(name: &[u8], i: usize, bit: u32) {
+fn say_kept(rt: &impl Print, name: &str, i: usize, bit: u32) -> io::Result<()> {
     let best = cheapest(class_prices(0), &SECONDS, &SERVERS, i, bit);
-    say::figure(name, best.cost);
-    say::end_line();
+    say::figure(rt, name, best.cost)?;
+    say::end_line(rt)
 }
 
-fn say_candidates(costs: &[u64; 8]) {
+fn say_candidates(rt: &impl Print, costs: &[u64; 8]) -> io::Result<()> {
     let prices = class_prices(0);
-    say::text(b"D(7) from C(2) C(4) C(5) C(6)");
-    say::number(candidate(prices, costs, 2));
-    say::number(candidate(prices, costs, 4));
-    say::number(candidate(prices, costs, 5));
-    say::number(candidate(prices, costs, 6));
-    say::end_line();
+    print!(rt; "D(7) from C(2) C(4) C(5) C(6)")?;
+    say::number(rt, candidate(prices, costs, 2))?;
+    say::number(rt, candidate(prices, costs, 4))?;
+    say::number(rt, candidate(prices, costs, 5))?;
+    say::number(rt, candidate(prices, costs, 6))?;
+    say::end_line(rt)
 }
 
-fn say_rows(rows: &[u32; 64], n: u32) {
-    say::text(b"rows");
+fn say_rows(rt: &impl Print, rows: &[u32; 64], n: u32) -> io::Result<()> {
+    print!(rt; "rows")?;
     let end = 4 * n as usize;
     for i in 0..64 {
         if i < end {
-            say::number(u64_from_u32(rows[i]));
+            say::number(rt, u64_from_u32(rows[i]))?;
         }
     }
-    say::end_line();
+    say::end_line(rt)
 }
 
-fn say_marks(marks: &[u8; 7]) {
-    say::text(b"marks ");
-    say::text(marks);
-    say::end_line();
+fn say_marks(rt: &impl Print, marks: &[u8; 7]) -> io::Result<()> {
+    print!(rt; "marks ")?;
+    rt.write_all(marks)?;
+    say::end_line(rt)
 }
 
-fn show_plan(log: &[u8; 82]) {
+fn show_plan(rt: &impl Print, log: &[u8; 82]) -> io::Result<()> {
     let mut marks = [7u8; 7];
     let mut rows = [7u32; 64];
     let plan = planned(log, &mut marks, &mut rows);
-    say_marks(&marks);
-    say_rows(&rows, plan.rows);
-    say::figure(b"cost", plan.cost);
-    say::figure(b" checked", checked_rows(log, &rows, plan.rows));
-    say::end_line();
+    say_marks(rt, &marks)?;
+    say_rows(rt, &rows, plan.rows)?;
+    say::figure(rt, "cost", plan.cost)?;
+    say::figure(rt, " checked", checked_rows(log, &rows, plan.rows))?;
+    say::end_line(rt)
 }
 
-fn show_costs(log: &[u8; 82]) {
+fn show_costs(rt: &impl Print, log: &[u8; 82]) -> io::Result<()> {
     let mut costs = [7u64; 8];
     least_given(log, &mut costs);
-    say_costs(&costs);
-    say_kept(b"D(4)", 4, 8);
-    say_kept(b"D(7)", 7, 64);
-    say_candidates(&costs);
+    say_costs(rt, &costs)?;
+    say_kept(rt, "D(4)", 4, 8)?;
+    say_kept(rt, "D(7)", 7, 64)?;
+    say_candidates(rt, &costs)
 }
 
-pub(crate) fn show() {
+pub(crate) fn show(rt: &impl Print) -> io::Result<()> {
     let mut log = [0u8; 82];
     let seconds = SECONDS;
     let servers = SERVERS;
     written(0, 4, 0, &seconds[1..8], &servers[1..8], &mut log);
-    say::text(b"002 times ten\n");
-    show_costs(&log);
-    show_plan(&log);
+    println!(rt; "002 times ten")?;
+    show_costs(rt, &log)?;
+    show_plan(rt, &log)
 }

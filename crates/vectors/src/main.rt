@@ -10,8 +10,10 @@ mod small;
 mod trials;
 mod weeks;
 
-fn main() {
-    figures::show();
-    weeks::show();
-    trials::show();
+use std::io;
+
+fn main(rt: HostRuntime) -> io::Result<()> {
+    figures::show(&rt)?;
+    weeks::show(&rt)?;
+    trials::show(&rt)
 }

@@ -1,22 +1,17 @@
 // What the program prints.
-use libc::STDOUT_FILENO;
-
-pub(crate) fn text(line: &[u8]) {
-    io::write_all(STDOUT_FILENO, line);
-}
+use std::io;
+use std::io::Print;
 
 // A number after a space.
-pub(crate) fn number(x: u64) {
-    text(b" ");
-    io::print_decimal(STDOUT_FILENO, x);
+pub(crate) fn number(rt: &impl Print, x: u64) -> io::Result<()> {
+    print!(rt; " {x}")
 }
 
 // A word and a number.
-pub(crate) fn figure(name: &[u8], x: u64) {
-    text(name);
-    number(x);
+pub(crate) fn figure(rt: &impl Print, name: &str, x: u64) -> io::Result<()> {
+    print!(rt; "{name} {x}")
 }
 
-pub(crate) fn end_line() {
-    text(b"\n");
+pub(crate) fn end_line(rt: &impl Print) -> io::Result<()> {
+    println!(rt;)
 }

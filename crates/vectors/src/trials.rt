@@ -5,6 +5,8 @@ use crate::run::{ABSENT, checked_rows, class_prices, least_given, planned, writt
 use crate::say;
 use base::widths::size_from_u32;
 use prices::{Prices, window};
+use std::io;
+use std::io::Print;
 use std::num::wrapping_add_u64;
 
 // In how many weeks the two agree.
@@ -235,17 +237,17 @@ fn trial(t: Tally, x: u32, class: u8, i: u32) -> Tally {
     )
 }
 
-fn say_tally(t: Tally) {
-    say::figure(b"small weeks", t.weeks);
-    say::figure(b": costs", t.costs);
-    say::figure(b" marks", t.marks);
-    say::figure(b" rows", t.rows);
-    say::figure(b" prefixes", t.prefixes);
-    say::figure(b" checked", t.checked);
-    say::end_line();
+fn say_tally(rt: &impl Print, t: Tally) -> io::Result<()> {
+    say::figure(rt, "small weeks", t.weeks)?;
+    say::figure(rt, ": costs", t.costs)?;
+    say::figure(rt, " marks", t.marks)?;
+    say::figure(rt, " rows", t.rows)?;
+    say::figure(rt, " prefixes", t.prefixes)?;
+    say::figure(rt, " checked", t.checked)?;
+    say::end_line(rt)
 }
 
-pub(crate) fn show() {
+pub(crate) fn show(rt: &impl Print) -> io::Result<()> {
     let mut t = Tally {
         weeks: 0,
         costs: 0,
@@ -261,5 +263,5 @@ pub(crate) fn show() {
         t = trial(t, x, byte(below(x, 8)), i);
         i += 1;
     }
-    say_tally(t);
+    say_tally(rt, t)
 }

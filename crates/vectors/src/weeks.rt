@@ -3,6 +3,8 @@
 use crate::draw::narrow;
 use crate::run::{checked_rows, live, planned, written};
 use crate::say;
+use std::io;
+use std::io::Print;
 use std::num::wrapping_add_u32;
 
 // The class, the servers, home, the requests, the seconds between two, and by how much servers go on; each fifth request one more.
@@ -61,92 +63,115 @@ fn fill(week: [u32; 6], seconds: &mut [u32; 2048], servers: &mut [u16; 2048]) {
 }
 
 // A plan written over other numbers, and checked.
-fn show_plan(log: &[u8]) {
+fn show_plan(rt: &impl Print, log: &[u8]) -> io::Result<()> {
     let mut marks = [7u8; 2048];
     let mut rows = [7u32; 16384];
     let plan = planned(log, &mut marks, &mut rows);
-    say::figure(b" least", plan.cost);
-    say::figure(b" rows", plan.rows as u64);
-    say::figure(b" checked", checked_rows(log, &rows, plan.rows));
+    say::figure(rt, " least", plan.cost)?;
+    say::figure(rt, " rows", plan.rows as u64)?;
+    say::figure(rt, " checked", checked_rows(log, &rows, plan.rows))
 }
 
-fn show_log(log: &[u8], length: u64) {
+fn show_log(rt: &impl Print, log: &[u8], length: u64) -> io::Result<()> {
     let end = length as usize;
     if end <= log.len() {
-        show_plan(&log[..end]);
+        return show_plan(rt, &log[..end]);
     }
+    Ok(())
 }
 
-fn show_requests(class: u8, server_count: u8, home: u8, seconds: &[u32], servers: &[u16]) {
+fn show_requests(
+    rt: &impl Print,
+    class: u8,
+    server_count: u8,
+    home: u8,
+    seconds: &[u32],
+    servers: &[u16],
+) -> io::Result<()> {
     let mut log = [0u8; 12328];
     let length = written(class, server_count, home, seconds, servers, &mut log);
-    show_log(&log, length);
-    say::figure(b" live", live(class, server_count, home, seconds, servers));
-    say::end_line();
+    show_log(rt, &log, length)?;
+    let running = live(class, server_count, home, seconds, servers);
+    say::figure(rt, " live", running)?;
+    say::end_line(rt)
 }
 
 // The first n requests.
-fn show_first(class: u8, server_count: u8, home: u8, n: usize, seconds: &[u32], servers: &[u16]) {
+fn show_first(
+    rt: &impl Print,
+    class: u8,
+    server_count: u8,
+    home: u8,
+    n: usize,
+    seconds: &[u32],
+    servers: &[u16],
+) -> io::Result<()> {
     if seconds.len() < n {
-        return;
+        return Ok(());
     }
     if servers.len() < n {
-        return;
+        return Ok(());
     }
-    show_requests(class, server_count, home, &seconds[..n], &servers[..n]);
+    show_requests(rt, class, server_count, home, &seconds[..n], &servers[..n])
 }
 
-fn say_week(week: [u32; 6]) {
-    say::figure(b"class", week[0] as u64);
-    say::figure(b" servers", week[1] as u64);
-    say::figure(b" home", week[2] as u64);
-    say::figure(b" requests", week[3] as u64);
-    say::text(b":");
+fn say_week(rt: &impl Print, week: [u32; 6]) -> io::Result<()> {
+    say::figure(rt, "class", week[0] as u64)?;
+    say::figure(rt, " servers", week[1] as u64)?;
+    say::figure(rt, " home", week[2] as u64)?;
+    say::figure(rt, " requests", week[3] as u64)?;
+    print!(rt; ":")
 }
 
-fn show_filled(week: [u32; 6], seconds: &[u32; 2048], servers: &[u16; 2048]) {
+fn show_filled(
+    rt: &impl Print,
+    week: [u32; 6],
+    seconds: &[u32; 2048],
+    servers: &[u16; 2048],
+) -> io::Result<()> {
     let n = week[3] as usize;
     show_first(
+        rt,
         byte(week[0]),
         byte(week[1]),
         byte(week[2]),
         n,
         seconds,
         servers,
-    );
+    )
 }
 
-fn show_week(week: [u32; 6]) {
+fn show_week(rt: &impl Print, week: [u32; 6]) -> io::Result<()> {
     let mut seconds = [0u32; 2048];
     let mut servers = [0u16; 2048];
     fill(week, &mut seconds, &mut servers);
-    say_week(week);
-    show_filled(week, &seconds, &servers);
+    say_week(rt, week)?;
+    show_filled(rt, week, &seconds, &servers)
 }
 
 // The marks of three requests.
-fn show_marks(log: &[u8; 58]) {
+fn show_marks(rt: &impl Print, log: &[u8; 58]) -> io::Result<()> {
     let mut marks = [7u8; 3];
     let mut rows = [7u32; 24];
     planned(log, &mut marks, &mut rows);
-    say::text(b" marks ");
-    say::text(&marks);
+    print!(rt; " marks ")?;
+    rt.write_all(&marks)
 }
 
 // The week whose marks are SKS, where 002's table would keep the last request for a cost that no marks have.
-fn show_sks() {
+fn show_sks(rt: &impl Print) -> io::Result<()> {
     let seconds = [1u32, 12, 13];
     let servers = [1u16, 1, 0];
     let mut log = [0u8; 58];
     written(0, 2, 0, &seconds, &servers, &mut log);
-    say::text(b"1 at 1, 12 at 1, 13 at 0:");
-    show_marks(&log);
-    show_requests(0, 2, 0, &seconds, &servers);
+    print!(rt; "1 at 1, 12 at 1, 13 at 0:")?;
+    show_marks(rt, &log)?;
+    show_requests(rt, 0, 2, 0, &seconds, &servers)
 }
 
-pub(crate) fn show() {
+pub(crate) fn show(rt: &impl Print) -> io::Result<()> {
     for i in 0..18 {
-        show_week(WEEKS[i]);
+        show_week(rt, WEEKS[i])?;
     }
-    show_sks();
+    show_sks(rt)
 }
