@@ -1,5 +1,4 @@
 -- `game::board::last_of` meets its contract. Assumes nothing.
-use borrow.Author.Rules.{rules}
 use Rattle.game.specs.Costs.{last_of}
 use Rattle.game.proofs.board.last_of.Goals as goal
 

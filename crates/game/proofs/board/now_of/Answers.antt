@@ -1,5 +1,4 @@
 -- `game::board::now_of` meets its contract. Assumes nothing.
-use borrow.Author.Rules.{rules}
 use Rattle.game.specs.Costs.{now_of}
 use Rattle.game.proofs.board.now_of.Goals as goal
 

@@ -1,5 +1,4 @@
 -- `game::costs::asked_at` meets its contract. Assumes nothing.
-use borrow.Author.Rules.{rules}
 use borrow.Author.Tests.{lt-ltb, le-ltb}
 use Rattle.game.specs.Costs.{asked_at}
 use Rattle.game.proofs.costs.asked_at.Goals as goal

@@ -1,5 +1,4 @@
 -- `game::costs::kept_cost` meets its contract. Assumes nothing.
-use borrow.Author.Rules.{rules}
 use native.Mathlib.Omega.{arith}
 use Rattle.game.specs.Costs.{kept_cost}
 use Rattle.game.proofs.costs.kept_cost.Goals as goal

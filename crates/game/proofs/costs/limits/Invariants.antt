@@ -1,11 +1,7 @@
 -- `game::costs::limits` meets its contract. Assumes nothing.
-use borrow.Author.Rules.{rules}
-use native.Mathlib.Omega.{arith}
-use mathlib.Core.Path.{◌≡◌, ◌∙◌}
-use mathlib.Core.List.{append-nil}
 use Prim.Native.Nat.{◌-◌, ◌≤◌}
-use Rattle.base.specs.LentLaws.{Filling, filling_begins, filling_next}
-use Rattle.game.specs.Costs.{limit, limits}
+use Rattle.base.specs.LentLaws.{Filling}
+use Rattle.game.specs.Costs.{limit}
 use Rattle.game.proofs.costs.limits.Given as goal
 
 abbrev pub invariant-loop-x : goal.invariant-loop-x

@@ -1,5 +1,4 @@
 -- `game::costs::next_cost` meets its contract. Assumes nothing.
-use borrow.Author.Rules.{rules}
 use borrow.Author.Tests.{eq-eqb, ne_eqb}
 use Rattle.game.specs.Costs.{next_cost}
 use Rattle.game.proofs.costs.next_cost.Goals as goal

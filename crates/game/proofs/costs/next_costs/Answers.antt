@@ -1,5 +1,4 @@
 -- `game::costs::next_costs` meets its contract. Assumes nothing.
-use borrow.Author.Rules.{rules}
 use Rattle.base.specs.Lists.{build}
 use Rattle.game.proofs.costs.next_costs.Goals as goal
 

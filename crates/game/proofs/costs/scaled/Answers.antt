@@ -1,5 +1,4 @@
 -- `game::costs::scaled` meets its contract. Assumes nothing.
-use borrow.Author.Rules.{rules}
 use native.Mathlib.Nat.{mul-le-mul}
 use native.Mathlib.Omega.{arith}
 use Rattle.game.proofs.costs.scaled.Goals as goal

@@ -1,5 +1,4 @@
 -- `game::costs::sent_cost` meets its contract. Assumes nothing.
-use borrow.Author.Rules.{rules}
 use native.Mathlib.Omega.{arith}
 use borrow.Author.Tests.{lt-ltb, le-ltb}
 use Rattle.game.specs.Costs.{sent_cost}

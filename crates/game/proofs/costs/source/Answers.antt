@@ -1,5 +1,4 @@
 -- `game::costs::source` meets its contract. Assumes nothing.
-use borrow.Author.Rules.{rules}
 use Rattle.game.specs.Costs.{source_of}
 use Rattle.game.proofs.costs.source.Goals as goal
 

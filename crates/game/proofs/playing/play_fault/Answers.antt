@@ -1,5 +1,4 @@
 -- `game::playing::play_fault` meets its contract. Assumes nothing.
-use borrow.Author.Rules.{rules}
 use Rattle.base.specs.Refusals.{from}
 use Rattle.base.specs.RefusalLaws.{from_first}
 use Rattle.game.specs.Answers.{play_conditions, play_verdict}

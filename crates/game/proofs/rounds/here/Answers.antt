@@ -1,5 +1,4 @@
 -- `game::rounds::here` meets its contract. Assumes nothing.
-use borrow.Author.Rules.{rules}
 use borrow.Author.Tests.{eq-eqb, ne_eqb}
 use Rattle.game.proofs.rounds.here.Goals as goal
 

@@ -1,5 +1,4 @@
 -- `game::rounds::moved` meets its contract. Assumes nothing.
-use borrow.Author.Rules.{rules}
 use native.Mathlib.Numerals.{add-one}
 use Rattle.base.specs.Lists.{build}
 use Rattle.game.specs.Boards.{moved}

@@ -1,5 +1,4 @@
 -- `game::rounds::sends` meets its contract. Assumes nothing.
-use borrow.Author.Rules.{rules}
 use native.Mathlib.Omega.{arith}
 use borrow.Author.Tests.{le-leb, lt-leb}
 use Rattle.game.proofs.rounds.sends.Goals as goal

@@ -1,5 +1,4 @@
 -- `game::settings::setting` meets its contract. Assumes nothing.
-use borrow.Author.Rules.{rules}
 use native.Mathlib.Numerals.{add-one}
 use Rattle.game.specs.Settings.{free, setting}
 use Rattle.game.proofs.settings.setting.Goals as goal

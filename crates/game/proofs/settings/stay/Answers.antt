@@ -1,5 +1,4 @@
 -- `game::settings::stay` meets its contract. Assumes nothing.
-use borrow.Author.Rules.{rules}
 use borrow.Author.Tests.{eq-eqb, ne_eqb}
 use Rattle.game.specs.Settings.{stay}
 use Rattle.game.proofs.settings.stay.Goals as goal

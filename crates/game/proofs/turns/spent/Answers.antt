@@ -1,5 +1,4 @@
 -- `game::turns::spent` meets its contract. Assumes nothing.
-use borrow.Author.Rules.{rules}
 use native.Mathlib.Omega.{arith}
 use Rattle.game.specs.Costs.{spent}
 use Rattle.game.proofs.turns.spent.Goals as goal
