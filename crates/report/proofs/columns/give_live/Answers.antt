@@ -1,5 +1,4 @@
 -- `report::columns::give_live` meets its contract. Assumes nothing.
-use borrow.Author.Rules.{rules}
 use Rattle.live.specs.Live.{live_mark, live_cost}
 use Rattle.base.specs.LentLaws.{lent_front}
 use Rattle.base.specs.Lists.{build, build_length}

@@ -5,11 +5,9 @@ use Rattle.live.specs.Live.{scans, state_after, live_mark, live_cost}
 use Rattle.bounds.specs.Calls.{run}
 use Rattle.base.specs.LentLaws.{fill_next}
 use Rattle.base.specs.Lists.{build}
-use lib.ListN.{length, drop, length-set}
+use lib.ListN.{length-set}
 use native.Mathlib.Omega.{arith}
 use native.Mathlib.Numerals.{add-one}
-use Prim.Native.Nat.{◌-◌, ◌≤◌}
-use mathlib.Core.List.{◌++◌}
 use mathlib.Core.Path.{◌≡◌, refl, ◌∙◌}
 use Rattle.report.proofs.columns.replay.Goals as goal
 

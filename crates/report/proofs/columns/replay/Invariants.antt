@@ -1,16 +1,10 @@
 -- `report::columns::replay` meets its contract. Assumes nothing.
-use borrow.Author.Rules.{rules}
-use Rattle.live.specs.LiveLaws.{Runs, turn_next}
-use Rattle.live.specs.Live.{scans, state_after, live_mark, live_cost}
-use Rattle.bounds.specs.Calls.{run}
-use Rattle.base.specs.LentLaws.{fill_next}
+use Rattle.live.specs.Live.{state_after, live_mark, live_cost}
 use Rattle.base.specs.Lists.{build}
-use lib.ListN.{length, drop, length-set}
-use native.Mathlib.Omega.{arith}
-use native.Mathlib.Numerals.{add-one}
+use lib.ListN.{length, drop}
 use Prim.Native.Nat.{◌-◌, ◌≤◌}
 use mathlib.Core.List.{◌++◌}
-use mathlib.Core.Path.{◌≡◌, refl, ◌∙◌}
+use mathlib.Core.Path.{◌≡◌}
 use Rattle.report.proofs.columns.replay.Given as goal
 
 abbrev pub invariant-loop-i : goal.invariant-loop-i

@@ -1,5 +1,4 @@
 -- `report::lines::entry_at` meets its contract. Assumes nothing.
-use borrow.Author.Rules.{rules}
 use Rattle.report.specs.Text.{entry_of}
 use native.Mathlib.Numerals.{add-one}
 use Rattle.report.proofs.lines.entry_at.Goals as goal

@@ -3,10 +3,8 @@ use borrow.Author.Rules.{rules}
 use Rattle.report.specs.TextLaws.{lines_next, lines_longer}
 use Rattle.report.specs.Text.{entry_lines, columns, entry_of}
 use Rattle.text.specs.Page.{page, added}
-use lib.ListN.{length}
 use native.Mathlib.Omega.{arith}
 use native.Mathlib.Numerals.{add-one}
-use Prim.Native.Nat.{◌*◌, ◌-◌, ◌≤◌}
 use mathlib.Core.Path.{◌≡◌, refl, ◌∙◌}
 use Rattle.report.proofs.lines.put_entries.Goals as goal
 

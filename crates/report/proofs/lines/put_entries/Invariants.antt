@@ -1,13 +1,9 @@
 -- `report::lines::put_entries` meets its contract. Assumes nothing.
-use borrow.Author.Rules.{rules}
-use Rattle.report.specs.TextLaws.{lines_next, lines_longer}
 use Rattle.report.specs.Text.{entry_lines, columns, entry_of}
 use Rattle.text.specs.Page.{page, added}
 use lib.ListN.{length}
-use native.Mathlib.Omega.{arith}
-use native.Mathlib.Numerals.{add-one}
 use Prim.Native.Nat.{◌*◌, ◌-◌, ◌≤◌}
-use mathlib.Core.Path.{◌≡◌, refl, ◌∙◌}
+use mathlib.Core.Path.{◌≡◌}
 use Rattle.report.proofs.lines.put_entries.Given as goal
 
 abbrev pub invariant-loop-i : goal.invariant-loop-i

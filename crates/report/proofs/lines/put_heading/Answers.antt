@@ -1,5 +1,4 @@
 -- `report::lines::put_heading` meets its contract. Assumes nothing.
-use borrow.Author.Rules.{rules}
 use Rattle.text.specs.Lines.{ascii}
 use Rattle.report.specs.Text.{heading}
 use Rattle.report.proofs.lines.put_heading.Goals as goal

@@ -1,5 +1,4 @@
 -- `report::lines::put_lines` meets its contract. Assumes nothing.
-use borrow.Author.Rules.{rules}
 use Rattle.report.specs.TextLaws.{sheet_parts, sheet_length}
 use Rattle.report.specs.Text.{columns, entry_of, sheet_text}
 use Rattle.text.specs.Lines.{ascii}

@@ -1,5 +1,4 @@
 -- `report::sheets::find_least` meets its contract. Assumes nothing.
-use borrow.Author.Rules.{rules}
 use Rattle.planner.specs.RoomLaws.{least_roomy}
 use Rattle.planner.specs.Answers.{least_verdict}
 use Rattle.base.specs.declared.Verdict.TheVariants.{Passed}

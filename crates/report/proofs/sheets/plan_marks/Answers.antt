@@ -1,5 +1,4 @@
 -- `report::sheets::plan_marks` meets its contract. Assumes nothing.
-use borrow.Author.Rules.{rules}
 use Rattle.planner.specs.RoomLaws.{plan_roomy, most_roomy}
 use Rattle.report.specs.Replies.{rows_planned}
 use Rattle.planner.specs.Sizes.{rows_room}

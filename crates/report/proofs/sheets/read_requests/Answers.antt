@@ -1,5 +1,4 @@
 -- `report::sheets::read_requests` meets its contract. Assumes nothing.
-use borrow.Author.Rules.{rules}
 use Rattle.prices.specs.Tariff.{price_file}
 use Rattle.request_log.specs.AnswerLaws.{read_long}
 use Rattle.report.proofs.sheets.read_requests.Goals as goal

@@ -1,5 +1,4 @@
 -- `report::sheets::row_count` meets its contract. Assumes nothing.
-use borrow.Author.Rules.{rules}
 use mathlib.Core.Path.{refl}
 use Rattle.report.specs.Replies.{rows_planned}
 use Rattle.report.proofs.sheets.row_count.Goals as goal

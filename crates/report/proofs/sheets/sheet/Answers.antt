@@ -1,6 +1,5 @@
 -- `report::sheets::sheet` meets its contract. Assumes nothing.
 use Rattle.prices.specs.FileLaws.{built_in_file}
-use borrow.Author.Rules.{rules}
 use Rattle.report.proofs.sheets.sheet.Goals as goal
 
 pub returns : goal.returns

@@ -1,5 +1,4 @@
 -- `season::bills::amount` meets its contract. Assumes nothing.
-use borrow.Author.Rules.{rules}
 use Rattle.season.specs.BillLaws.{cost_answered}
 use Rattle.season.proofs.bills.amount.Goals as goal
 

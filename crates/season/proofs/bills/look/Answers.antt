@@ -1,5 +1,4 @@
 -- `season::bills::look` meets its contract. Assumes nothing.
-use borrow.Author.Rules.{rules}
 use Rattle.season.specs.BillLaws.{least_refused, least_accepted, least_found, accepted_met}
 use Rattle.season.specs.Met.{met_as}
 use mathlib.Core.Path.{sym, ◌∙◌}

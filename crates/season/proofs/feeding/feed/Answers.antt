@@ -1,5 +1,4 @@
 -- `season::feeding::feed` meets its contract. Assumes nothing.
-use borrow.Author.Rules.{rules}
 use mathlib.Core.Path.{sym, ap, ◌∙◌}
 use native.Mathlib.Omega.{arith}
 use Prim.Native.Nat.{ℕ}
@@ -12,7 +11,8 @@ use Rattle.season.proofs.feeding.feed.Goals as goal
 pub returns-in-Refused : goal.returns-in-Refused
 returns-in-Refused c =
     let s = c.args in
-    fed_refused built_in s.season s.room.now s.piece.now _ (sym c.feed_fault-v.ensures ∙ c.in-Refused.is)
+    let e = fed_refused built_in s.season s.room.now s.piece.now _ (sym c.feed_fault-v.ensures ∙ c.in-Refused.is) in
+    record { value = e.0; room_after = e.1 }
 
 pub take_all-t-requires : goal.take_all-t-requires
 take_all-t-requires c =

@@ -1,5 +1,4 @@
 -- `season::feeding::feed_fault` meets its contract. Assumes nothing.
-use borrow.Author.Rules.{rules}
 use Rattle.season.specs.Steps.{feed_verdict}
 use Rattle.base.specs.Refusals.{from}
 use Rattle.base.specs.RefusalLaws.{from_first}

@@ -1,5 +1,4 @@
 -- `season::feeding::heads` meets its contract. Assumes nothing.
-use borrow.Author.Rules.{rules}
 use Rattle.prices.specs.FileLaws.{built_in_given}
 use Rattle.season.specs.Tallies.{accepts}
 use Rattle.season.proofs.feeding.heads.Goals as goal

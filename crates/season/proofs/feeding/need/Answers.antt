@@ -1,5 +1,4 @@
 -- `season::feeding::need` meets its contract. Assumes nothing.
-use borrow.Author.Rules.{rules}
 use borrow.Author.Tests.{lt-ltb, le-ltb}
 use Rattle.request_log.specs.Fields.{total_length}
 use mathlib.Core.Path.{sym, ◌∙◌}

@@ -2,7 +2,7 @@
 use borrow.Author.Rules.{rules}
 use mathlib.Core.Path.{◌≡◌, refl, ◌∙◌}
 use native.Mathlib.Omega.{arith}
-use Prim.Native.Nat.{◌+◌, ◌-◌, ◌≤◌, ◌<◌}
+use Prim.Native.Nat.{◌+◌, ◌≤◌}
 use lib.ListN.{length, take}
 use lib.Seq.{take_all}
 use Rattle.prices.specs.Tariff.{built_in}
@@ -38,7 +38,7 @@ loop-at-preserved c =
       omega (arith, c.take_in-t.ensures.held_lt_log_room.2, part_length l.at c.args.piece.now, l.invariant.0),
       c.take_in-t.auto.room ∙ l.invariant.1,
       c.take_in-t.ensures.held_lt_log_room.0,
-      c.take_in-t.ensures.room_after ∙ taken_next built_in (gathered c.args.tally (take c.args.held c.args.room.now)) (gathered l.sums (take l.auto l.room)) l.at c.take_in-t.result.used c.args.piece.now l.invariant.3,
+      c.take_in-t.ensures.room_after ∙ taken_next built_in (gathered c.args.tally (take c.args.held c.args.room.now)) (gathered l.sums (take l.kept l.room)) l.at c.take_in-t.result.used c.args.piece.now l.invariant.3,
     )
 
 pub returns : goal.returns

@@ -1,14 +1,10 @@
 -- `season::feeding::take_all` meets its contract. Assumes nothing.
-use borrow.Author.Rules.{rules}
-use mathlib.Core.Path.{◌≡◌, refl, ◌∙◌}
-use native.Mathlib.Omega.{arith}
-use Prim.Native.Nat.{◌+◌, ◌-◌, ◌≤◌, ◌<◌}
+use mathlib.Core.Path.{◌≡◌}
+use Prim.Native.Nat.{◌-◌, ◌≤◌, ◌<◌}
 use lib.ListN.{length, take}
-use lib.Seq.{take_all}
 use Rattle.prices.specs.Tariff.{built_in}
 use Rattle.request_log.specs.Sizes.{log_room}
 use Rattle.season.specs.Steps.{gathered, with_bytes}
-use Rattle.season.specs.FeedLaws.{part_length, taken_next}
 use Rattle.season.proofs.feeding.take_all.Given as goal
 
 abbrev pub invariant-loop-at : goal.invariant-loop-at

@@ -1,10 +1,8 @@
 -- `season::lines::put_counts` meets its contract. Assumes nothing.
 use borrow.Author.Rules.{rules}
 use mathlib.Core.Path.{◌≡◌, refl, ◌∙◌}
-use Prim.Native.Nat.{◌-◌, ◌≤◌}
 use native.Mathlib.Numerals.{add-one}
 use native.Mathlib.Omega.{arith}
-use lib.ListN.{length}
 use Rattle.text.specs.Page.{page, added}
 use Rattle.season.specs.ReportLaws.{lines_next}
 use Rattle.season.specs.ReportText.{refused_lines}

@@ -1,5 +1,4 @@
 -- `season::lines::put_refused` meets its contract. Assumes nothing.
-use borrow.Author.Rules.{rules}
 use Rattle.text.specs.Lines.{ascii}
 use Rattle.text.specs.Page.{added}
 use Rattle.season.specs.ReportLaws.{refused_none, refused_some}

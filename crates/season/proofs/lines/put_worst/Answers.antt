@@ -1,5 +1,4 @@
 -- `season::lines::put_worst` meets its contract. Assumes nothing.
-use borrow.Author.Rules.{rules}
 use Rattle.text.specs.Lines.{ascii}
 use Rattle.text.specs.Page.{added}
 use Rattle.season.specs.ReportLaws.{worst_none, worst_some}

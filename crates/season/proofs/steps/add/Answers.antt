@@ -1,5 +1,4 @@
 -- `season::steps::add` meets its contract. Assumes nothing.
-use borrow.Author.Rules.{rules}
 use native.Mathlib.Omega.{arith}
 use mathlib.Core.Path.{sym}
 use Rattle.season.specs.StepLaws.{summed_over}

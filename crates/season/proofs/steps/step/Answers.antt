@@ -1,5 +1,4 @@
 -- `season::steps::step` meets its contract. Assumes nothing.
-use borrow.Author.Rules.{rules}
 use borrow.Author.Tests.{le-leb, lt-leb}
 use Prim.Native.Nat.{◌≤◌, ◌<◌}
 use Rattle.season.specs.Met.{most_logs}
