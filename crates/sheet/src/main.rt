@@ -55,8 +55,8 @@ fn word_count(rt: &impl Env) -> usize {
     usize::MAX
 }
 
-// As much of a file as there is room for, and its length. A file that cannot be opened is empty, and one that cannot be read on ends there. The names of
-// files are UTF-8, so any other is one that no file has.
+// As much of a file as there is room for, and its length. A file that cannot be opened is empty, and one that cannot be read on ends there. A name that is
+// not UTF-8 cannot be handed to std, and counts as one that no file has.
 fn read_file(rt: &impl Files, name: &[u8], bytes: &mut [u8]) -> usize
     ensures { IsPrefixLen result bytes.new }
 {
