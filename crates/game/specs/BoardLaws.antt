@@ -19,8 +19,8 @@ use Rattle.forcing.specs.declared.Game.{Game}
 use Rattle.game.specs.declared.board.Board.{Board}
 use Rattle.game.specs.Answers.{Ranged}
 use Rattle.forcing.specs.Positions.{Position, start, now_at, last_at, Move, there, holding, put, with_request, after}
-use Rattle.forcing.specs.RoundLaws.{meant, there_meant, holding_meant, counted_start, counted_after}
-use Rattle.forcing.specs.StayLaws.{put_same, put_other}
+use Rattle.forcing.proofs.RoundLaws.{meant, there_meant, holding_meant, counted_start, counted_after}
+use Rattle.forcing.proofs.StayLaws.{put_same, put_other}
 use Rattle.game.specs.Costs.{now_of, source_of, next_cost}
 use Rattle.game.specs.Boards.{asked_of, shown, stays_in, start_board, moved, Fits}
 use Rattle.game.specs.CostLaws.{cost_next, cost_most}

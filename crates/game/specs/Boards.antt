@@ -8,7 +8,7 @@ use Rattle.model.specs.Table.{best}
 use Rattle.forcing.specs.declared.Game.{Game}
 use Rattle.game.specs.declared.board.Board.{Board}
 use Rattle.forcing.specs.Positions.{Position}
-use Rattle.forcing.specs.RoundLaws.{Counted}
+use Rattle.forcing.proofs.RoundLaws.{Counted}
 use Rattle.game.specs.Costs.{now_of, source_of, next_cost}
 
 -- the requests of a board

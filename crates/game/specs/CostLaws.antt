@@ -20,7 +20,7 @@ use Rattle.forcing.specs.declared.Game.{Game}
 use Rattle.game.specs.declared.board.Board.{Board}
 use Rattle.game.specs.Answers.{Ranged}
 use Rattle.forcing.specs.Positions.{with_request}
-use Rattle.forcing.specs.OneMore.{more_time, more_server, more_alike}
+use Rattle.forcing.proofs.OneMore.{more_time, more_server, more_alike}
 use Rattle.game.specs.Costs.{now_of, asked_at, source_of, sent_cost, kept_cost, next_cost}
 use Rattle.game.specs.Boards.{asked_of, Fits}
 

@@ -17,8 +17,8 @@ use Rattle.game.specs.declared.board.Board.{Board}
 use Rattle.game.specs.Answers.{Ranged}
 use Rattle.forcing.specs.Positions.{Position, last_at, Stays}
 use Rattle.forcing.specs.Winning.{some_stays, guest_wins, keeper_wins}
-use Rattle.forcing.specs.RoundLaws.{meant, after_meant}
-use Rattle.forcing.specs.StayLaws.{stays_some, stays_one, guest_same}
+use Rattle.forcing.proofs.RoundLaws.{meant, after_meant}
+use Rattle.forcing.proofs.StayLaws.{stays_some, stays_one, guest_same}
 use Rattle.game.specs.Costs.{last_of}
 use Rattle.game.specs.Boards.{asked_of, shown, stays_in, Fits}
 use Rattle.game.specs.BoardLaws.{Set, set_none}

@@ -15,12 +15,12 @@ use Rattle.forcing.specs.Forcing.{KeeperForces, GuestForces}
 use Rattle.forcing.specs.Winning.{keeper_wins}
 use Rattle.game.specs.Answers.{Ranged, play_verdict, played}
 use Rattle.game.specs.AnswerLaws.{ranged, played_winner, played_refused, only_46}
-use Rattle.forcing.specs.Decided.{decided, never_both, one_forces}
-use Rattle.forcing.specs.Reached.{Reached, reached_least}
-use Rattle.forcing.specs.Strategy.{three_over_one}
-use Rattle.forcing.specs.Longer.{keeper_less, with_requests, keeper_same}
-use Rattle.forcing.specs.Larger.{with_limit, larger}
-use Rattle.forcing.specs.BelowOne.{guest_below}
+use Rattle.forcing.proofs.Decided.{decided, never_both, one_forces}
+use Rattle.forcing.proofs.Reached.{Reached, reached_least}
+use Rattle.forcing.proofs.Strategy.{three_over_one}
+use Rattle.forcing.proofs.Longer.{keeper_less, with_requests, keeper_same}
+use Rattle.forcing.proofs.Larger.{with_limit, larger}
+use Rattle.forcing.proofs.BelowOne.{guest_below}
 
 -- ---- the answer is right
 

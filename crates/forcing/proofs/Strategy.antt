@@ -20,11 +20,11 @@ use Rattle.bounds.specs.WithinThree.{within_three}
 use Rattle.forcing.specs.declared.Game.{Game}
 use Rattle.forcing.specs.Positions.{Position, start, now_at, last_at, Stays, Move, there, holding, after, running, least, within}
 use Rattle.forcing.specs.Forcing.{KeeperForces}
-use Rattle.forcing.specs.RoundLaws.{now_next}
-use Rattle.forcing.specs.HistoryAlike.{uses_alike, holds_alike, transfers_alike, held_alike}
-use Rattle.forcing.specs.OneMore.{more, more_time, more_server, more_alike, more_rising, more_within}
-use Rattle.forcing.specs.HistoryNext.{transfers_next, holds_next}
-use Rattle.forcing.specs.WindowStay.{stay_recent, stay_held}
+use Rattle.forcing.proofs.RoundLaws.{now_next}
+use Rattle.forcing.proofs.HistoryAlike.{uses_alike, holds_alike, transfers_alike, held_alike}
+use Rattle.forcing.proofs.OneMore.{more, more_time, more_server, more_alike, more_rising, more_within}
+use Rattle.forcing.proofs.HistoryNext.{transfers_next, holds_next}
+use Rattle.forcing.proofs.WindowStay.{stay_recent, stay_held}
 
 -- ---- the strategy
 

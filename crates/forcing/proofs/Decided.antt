@@ -8,8 +8,8 @@ use Rattle.forcing.specs.declared.Game.{Game}
 use Rattle.forcing.specs.Positions.{Position, start, last_at, Stays, Move, after, within}
 use Rattle.forcing.specs.Forcing.{KeeperForces, GuestForces}
 use Rattle.forcing.specs.Winning.{guest_wins, keeper_wins}
-use Rattle.forcing.specs.RoundLaws.{meant, meant_stays, after_meant, Counted, counted_start, counted_after}
-use Rattle.forcing.specs.StayLaws.{stays_some, stays_one, move_some, move_one}
+use Rattle.forcing.proofs.RoundLaws.{meant, meant_stays, after_meant, Counted, counted_start, counted_after}
+use Rattle.forcing.proofs.StayLaws.{stays_some, stays_one, move_some, move_one}
 
 -- ---- never both
 

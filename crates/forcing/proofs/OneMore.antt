@@ -7,7 +7,7 @@ use Rattle.base.specs.Choice.{same_or_not}
 use Rattle.model.specs.Requests.{Requests, Rising, Within}
 use Rattle.model.specs.Alike.{Alike}
 use Rattle.forcing.specs.Positions.{with_request}
-use Rattle.forcing.specs.StayLaws.{put_same, put_other}
+use Rattle.forcing.proofs.StayLaws.{put_same, put_other}
 
 module _ (q : Requests) (i τ x : ℕ) where
   -- the requests with one at second τ and server x after the first i

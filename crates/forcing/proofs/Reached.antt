@@ -7,7 +7,7 @@ use Rattle.model.specs.Schedule.{Row, Feasible, cost_of}
 use Rattle.model.specs.PlanLeast.{plan_least}
 use Rattle.forcing.specs.declared.Game.{Game}
 use Rattle.forcing.specs.Positions.{Position, start, now_at, Move, after, least}
-use Rattle.forcing.specs.OneMore.{more_rising, more_within}
+use Rattle.forcing.proofs.OneMore.{more_rising, more_within}
 
 -- from the start by rounds
 pub data Reached (g : Game) : Position → Type 0 where
