@@ -294,17 +294,22 @@ fn more_than_one_argument() {
     }
 }
 
-/// Names are bytes to the system.
+/// Names are bytes to the system, and text to Rattle's std: a file whose name is no UTF-8 counts as one that can't be opened.
 #[test]
 fn names_of_price_files() {
     let content = encode(&[(2, 3), (1, 10)]);
-    for name in [&b"with spaces and 'quotes'.prices"[..], b"--prices", b"\xc3\xa9.prices", b"\xff\xfe.prices"] {
+    let names = [&b"with spaces and 'quotes'.prices"[..], b"--prices", b"\xc3\xa9.prices", b"\xff\xfe.prices"];
+    for name in names {
+        let expected = match std::str::from_utf8(name) {
+            Ok(_) => printed(Some(&content), &week_c().bytes()),
+            Err(_) => WRONG_FILE.to_string(),
+        };
         let file = PathBuf::from(env!("CARGO_TARGET_TMPDIR")).join(OsStr::from_bytes(name));
         fs::write(&file, &content).unwrap();
-        assert_eq!(given(with(&file), &week_c().bytes()), printed(Some(&content), &week_c().bytes()));
+        assert_eq!(given(with(&file), &week_c().bytes()), expected);
         let mut relative = with(OsStr::from_bytes(name));
         relative.current_dir(env!("CARGO_TARGET_TMPDIR"));
-        assert_eq!(given(relative, &week_c().bytes()), printed(Some(&content), &week_c().bytes()));
+        assert_eq!(given(relative, &week_c().bytes()), expected);
     }
 }
 
