@@ -3,6 +3,7 @@ use mathlib.Core.List.{List}
 use mathlib.Core.Path.{◌≡◌, sym, ap, ◌∙◌}
 use Prim.Native.Nat.{ℕ, ◌*◌}
 use native.Mathlib.Omega.{arith}
+use Rattle.std.proofs.Common.{rules}
 use lib.ListN.{length, take}
 use lib.Seq.{length-take-le}
 use Rattle.planner.specs.declared.Planned.TheVariants.{Plan}
@@ -18,8 +19,8 @@ pub returns-then-marks-end : goal.returns-then-marks-end
 returns-then-marks-end c =
     let a = c.args in
     let found = marked_rows a.n a.count a.seconds.now a.servers.now a.letters.now in
-    marks_short found a.n a.cost (take a.n a.letters.now) a.marks.now a.rows.now c.short.result (omega (arith, c.size_from_u16-end.ensures.0))
-    (c.short.ensures ∙ rw c.size_from_u16-end.ensures.0)
+    marks_short found a.n a.cost (take a.n a.letters.now) a.marks.now a.rows.now _ (omega (arith, c.size_from_u16-end.ensures.0))
+    (search (rules, c.size_from_u16-end.ensures.0))
 
 pub returns-then-rows-needed : goal.returns-then-rows-needed
 returns-then-rows-needed c =
@@ -30,8 +31,8 @@ returns-then-rows-needed c =
     ∙ ap (λ (x : List ℕ). row_count x (marking a.letters.now) a.n) c.holders-words.ensures
     ∙ filled_count a.n a.count a.seconds.now a.servers.now a.letters.now c.requires in
     let e : 4 * c.size_from_u32-needed.result ≡ 4 * length found = omega arith in
-    rows_short found a.n a.cost (take a.n a.letters.now) a.marks.now a.rows.now c.short-then-rows-needed.result (omega (arith, c.size_from_u16-end.ensures.0)) (omega arith)
-    (c.short-then-rows-needed.ensures ∙ rw e)
+    rows_short found a.n a.cost (take a.n a.letters.now) a.marks.now a.rows.now _ (omega (arith, c.size_from_u16-end.ensures.0)) (omega arith)
+    (search (rules, e))
 
 pub slice_bounds-copy-end : goal.slice_bounds-copy-end
 slice_bounds-copy-end c =
