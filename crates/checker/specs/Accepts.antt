@@ -13,7 +13,7 @@ use Rattle.request_log.specs.Conditions.{verdict_of}
 use Rattle.request_log.specs.Conditions as logs
 use Rattle.model.specs.LogRequests.{requests_in, rates_in}
 use Rattle.model.specs.Checking.{schedule_conditions, check_cost, Scheduled}
-use Rattle.model.specs.CheckingLaws.{accepts_iff}
+use Rattle.model.proofs.CheckingLaws.{accepts_iff}
 use Rattle.checker.specs.declared.Checked.TheVariants as answer
 use Rattle.checker.specs.Answers.{check_verdict_of, checked, check_answer, Answered}
 use Rattle.checker.specs.AnswerLaws.{verdict_parts}

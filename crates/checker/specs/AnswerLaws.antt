@@ -19,12 +19,12 @@ use Rattle.model.specs.Rates.{rates, some?}
 use Rattle.model.specs.Sums.{total}
 use Rattle.model.specs.Requests.{requests}
 use Rattle.model.specs.LogRequests.{requests_in, prices_in, rates_in}
-use Rattle.model.specs.LogRequestLaws.{log_priced}
+use Rattle.model.proofs.LogRequestLaws.{log_priced}
 use Rattle.model.specs.Schedule.{length_of, is_transfer, is_upload}
 use Rattle.model.specs.RowForm.{rows_of}
 use Rattle.model.specs.Checking.{schedule_conditions, check_cost}
-use Rattle.model.specs.CheckingLaws.{accepts_iff}
-use Rattle.model.specs.CostBound.{hold_seconds, transfer_count, upload_count}
+use Rattle.model.proofs.CheckingLaws.{accepts_iff}
+use Rattle.model.proofs.CostBound.{hold_seconds, transfer_count, upload_count}
 use Rattle.checker.specs.declared.Checked.TheVariants as answer
 use Rattle.checker.specs.Answers.{check_conditions, check_verdict_of, checked, check_answer}
 use Rattle.checker.specs.Quick.{schedule_tests}

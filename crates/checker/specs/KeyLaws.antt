@@ -7,7 +7,7 @@ use Rattle.base.specs.Choice.{both, either, same_or_not, not_both}
 use Rattle.base.specs.ChoiceLaws.{both_true, either_true}
 use Rattle.model.specs.Schedule.{Row, hold, move, transfer, upload}
 use Rattle.model.specs.RowForm.{row_at, fits, earlier, follows}
-use Rattle.model.specs.RowLaws.{fits_hold, fits_move, fits_upload}
+use Rattle.model.proofs.RowLaws.{fits_hold, fits_move, fits_upload}
 use Rattle.model.specs.Checking.{row_count}
 use Rattle.checker.specs.Search.{hold_key, second_key, upload_key, key, InOrder}
 

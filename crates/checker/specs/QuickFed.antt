@@ -16,9 +16,9 @@ use Rattle.base.specs.ChoiceLaws.{both_true, either_true}
 use Rattle.model.specs.Requests.{Requests}
 use Rattle.model.specs.Schedule.{hold, move, transfer, Stands, at_home, held, arrived, uploaded}
 use Rattle.model.specs.Standing.{stands}
-use Rattle.model.specs.StandingLaws.{stands_sound}
+use Rattle.model.proofs.StandingLaws.{stands_sound}
 use Rattle.model.specs.RowForm.{row_at, rows_of}
-use Rattle.model.specs.RowLaws.{fits_hold, row_member, member_row}
+use Rattle.model.proofs.RowLaws.{fits_hold, row_member, member_row}
 use Rattle.model.specs.Checking.{row_count, backed, copy_condition}
 use Rattle.rows.specs.Reading.{server_of, second_of, target_of}
 use Rattle.rows.specs.Passes.{covers, any_below, aims, starts}

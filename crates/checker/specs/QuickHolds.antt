@@ -11,9 +11,9 @@ use Rattle.base.specs.Sets.{has}
 use Rattle.base.specs.ChoiceLaws.{both_true}
 use Rattle.model.specs.Schedule.{Row, hold, move, transfer, upload, Stands}
 use Rattle.model.specs.Standing.{stands}
-use Rattle.model.specs.StandingLaws.{stands_complete}
+use Rattle.model.proofs.StandingLaws.{stands_complete}
 use Rattle.model.specs.RowForm.{row_at, rows_of}
-use Rattle.model.specs.RowLaws.{fits_hold, fits_move, member_row}
+use Rattle.model.proofs.RowLaws.{fits_hold, fits_move, member_row}
 use Rattle.model.specs.Checking.{row_count}
 use Rattle.rows.specs.Reading.{second_of, target_of}
 use Rattle.rows.specs.Passes.{covers, any_below, starts}

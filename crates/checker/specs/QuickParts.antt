@@ -7,7 +7,7 @@ use Rattle.base.specs.RefusalLaws.{first_append}
 use Rattle.request_log.specs.Fields.{server_count_of, home_of, request_count, seconds_of}
 use Rattle.request_log.specs.Conditions.{before}
 use Rattle.model.specs.LogRequests.{requests_in}
-use Rattle.model.specs.LogRequestLaws.{last_is}
+use Rattle.model.proofs.LogRequestLaws.{last_is}
 use Rattle.model.specs.Checking.{row_count}
 use Rattle.rows.specs.Passes.{row_tests}
 use Rattle.checker.specs.Quick.{copy_tests, serve_test, schedule_tests}

@@ -12,7 +12,7 @@ use Rattle.base.specs.ChoiceLaws.{both_true}
 use Rattle.model.specs.Schedule.{Row, hold, move}
 use Rattle.model.specs.Standing.{reached}
 use Rattle.model.specs.RowForm.{row_at, rows_of}
-use Rattle.model.specs.RowLaws.{fits_hold}
+use Rattle.model.proofs.RowLaws.{fits_hold}
 use Rattle.model.specs.Checking.{row_count}
 use Rattle.rows.specs.Passes.{join, covers, puts, any_below}
 use Rattle.rows.specs.AnyLaws.{same_test, any_is, any_of, any_either}

@@ -8,7 +8,7 @@ use Rattle.base.specs.Choice.{pick}
 use Rattle.model.specs.Schedule.{Row, hold, move, transfer, upload}
 use Rattle.model.specs.Standing.{arrive, through, rounds}
 use Rattle.model.specs.RowForm.{row_at, rows_upto, rows_of, fits}
-use Rattle.model.specs.RowLaws.{fits_move}
+use Rattle.model.proofs.RowLaws.{fits_move}
 use Rattle.model.specs.Checking.{row_count}
 use Rattle.rows.specs.Passes.{join, arrival, along, settle}
 use Rattle.checker.specs.Search.{second_key, key, position}

@@ -13,7 +13,7 @@ use Rattle.base.specs.Sets.{has, put}
 use Rattle.model.specs.Schedule.{Row, hold, move, transfer, upload}
 use Rattle.model.specs.Standing.{arrive, through, reached, rounds, standing, stands}
 use Rattle.model.specs.RowForm.{row_at, rows_of}
-use Rattle.model.specs.RowLaws.{fits_move, member_row}
+use Rattle.model.proofs.RowLaws.{fits_move, member_row}
 use Rattle.model.specs.Checking.{row_count}
 use Rattle.rows.specs.Reading.{server_of}
 use Rattle.rows.specs.AnyLaws.{any_of, either_last}

@@ -19,11 +19,11 @@ use Rattle.base.specs.ChoiceLaws.{either_false}
 use Rattle.model.specs.Rates.{Rates, offers}
 use Rattle.model.specs.Requests.{Requests, requests}
 use Rattle.model.specs.LogRequests.{requests_in}
-use Rattle.model.specs.LogRequestLaws.{home_is, time_read, server_read}
+use Rattle.model.proofs.LogRequestLaws.{home_is, time_read, server_read}
 use Rattle.model.specs.Schedule.{hold, held}
 use Rattle.model.specs.Standing.{stands}
 use Rattle.model.specs.RowForm.{row_at, rows_of, fits}
-use Rattle.model.specs.RowLaws.{row_member}
+use Rattle.model.proofs.RowLaws.{row_member}
 use Rattle.model.specs.Checking.{row_count, kind_fits, misfits, misplaced, row_conditions, backed, copy_condition, serve_condition, schedule_conditions}
 use Rattle.rows.specs.Reading.{server_of, second_of}
 use Rattle.rows.specs.GivenLaws.{given_some}

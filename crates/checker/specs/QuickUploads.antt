@@ -11,7 +11,7 @@ use Rattle.base.specs.Sets.{has}
 use Rattle.base.specs.ChoiceLaws.{both_true}
 use Rattle.model.specs.Schedule.{Row, hold, move, transfer, upload}
 use Rattle.model.specs.RowForm.{row_at, fits}
-use Rattle.model.specs.RowLaws.{fits_hold, fits_move, fits_upload}
+use Rattle.model.proofs.RowLaws.{fits_hold, fits_move, fits_upload}
 use Rattle.model.specs.Checking.{row_count}
 use Rattle.rows.specs.Reading.{server_of}
 use Rattle.rows.specs.Passes.{any_below, puts}

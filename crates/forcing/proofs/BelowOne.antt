@@ -8,10 +8,10 @@ use native.Mathlib.Omega.{arith}
 use borrow.Author.Tests.{lt-leb, eq-eqb, ne_eqb}
 use Rattle.base.specs.Choice.{same_or_not}
 use Rattle.model.specs.Requests.{Requests}
-use Rattle.model.specs.RequestLaws.{previous_next}
+use Rattle.model.proofs.RequestLaws.{previous_next}
 use Rattle.model.specs.Rates.{rates, plain}
-use Rattle.model.specs.BestLaws.{best_zero, best_K}
-use Rattle.model.specs.PlanLaws.{plan_best}
+use Rattle.model.proofs.BestLaws.{best_zero, best_K}
+use Rattle.model.proofs.PlanLaws.{plan_best}
 use Rattle.online.specs.Servers.{across}
 use Rattle.online.specs.ServerLaws.{across_same, at, at_same, at_other, across_at}
 use Rattle.forcing.specs.declared.Game.{Game}

@@ -5,9 +5,9 @@ use Rattle.std.proofs.Math.Path.{refl, ap, fun_ext}
 use Rattle.std.proofs.Common.{arith}
 use Prim.Native.Nat.{ℕ, zero, suc, ◌≤◌}
 use Rattle.base.specs.Choice.{pick}
-use Rattle.model.specs.SumLaws.{sum_same}
+use Rattle.model.proofs.SumLaws.{sum_same}
 use Rattle.model.specs.Requests.{Requests}
-use Rattle.model.specs.Alike.{Alike}
+use Rattle.model.proofs.Alike.{Alike}
 use Rattle.model.specs.Marking.{Mark, sends}
 use Rattle.model.specs.Marking as marking
 use Rattle.online.specs.ServerLaws.{across_same}

@@ -9,10 +9,10 @@ use Rattle.std.proofs.Math.Dec.{leb}
 use borrow.Author.Tests.{le-leb, eq-eqb, ne_eqb}
 use Rattle.base.specs.Choice.{pick, either, same_or_not}
 use Rattle.model.specs.Requests.{Requests, Rising}
-use Rattle.model.specs.RequestLaws.{none_some}
+use Rattle.model.proofs.RequestLaws.{none_some}
 use Rattle.model.specs.Marking.{K}
 use Rattle.bounds.specs.History.{recent, near, last_use, mark, holds, transfers}
-use Rattle.bounds.specs.HistoryLaws.{kept_sent, Turn, target, source, other, turn, Marked, again, back, sent, marked, use_last, Link, never, since, link, transfers_S, transfers_K}
+use Rattle.bounds.proofs.HistoryLaws.{kept_sent, Turn, target, source, other, turn, Marked, again, back, sent, marked, use_last, Link, never, since, link, transfers_S, transfers_K}
 
 module _ (W : ℕ) (q : Requests) (i τ x : ℕ) (second : q.time (suc i) ≡ τ) (asked : q.server (suc i) ≡ x) where
   -- request i + 1, at second τ and server x, is one transfer more if no copy is held there

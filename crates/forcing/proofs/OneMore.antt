@@ -5,7 +5,7 @@ use Rattle.std.proofs.Math.Path.{refl, sym}
 use Prim.Native.Nat.{ℕ, suc, ◌<◌}
 use Rattle.base.specs.Choice.{same_or_not}
 use Rattle.model.specs.Requests.{Requests, Rising, Within}
-use Rattle.model.specs.Alike.{Alike}
+use Rattle.model.proofs.Alike.{Alike}
 use Rattle.forcing.specs.Positions.{with_request}
 use Rattle.forcing.proofs.StayLaws.{put_same, put_other}
 

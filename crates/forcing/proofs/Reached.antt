@@ -4,7 +4,7 @@ use Rattle.std.proofs.Common.{arith}
 use Rattle.model.specs.Rates.{plain}
 use Rattle.model.specs.Requests.{Rising, Within}
 use Rattle.model.specs.Schedule.{Row, Feasible, cost_of}
-use Rattle.model.specs.PlanLeast.{plan_least}
+use Rattle.model.proofs.PlanLeast.{plan_least}
 use Rattle.forcing.specs.declared.Game.{Game}
 use Rattle.forcing.specs.Positions.{Position, start, now_at, Move, after, least}
 use Rattle.forcing.proofs.OneMore.{more_rising, more_within}

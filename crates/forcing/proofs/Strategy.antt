@@ -7,16 +7,16 @@ use Rattle.std.proofs.Math.Path.{sym}
 use Rattle.base.specs.Choice.{pick, either, same_or_not}
 use Rattle.prices.specs.Prices.{window}
 use Rattle.model.specs.Requests.{Requests, Rising, Within}
-use Rattle.model.specs.RequestLaws.{rises_le}
-use Rattle.model.specs.Alike.{Alike}
+use Rattle.model.proofs.RequestLaws.{rises_le}
+use Rattle.model.proofs.Alike.{Alike}
 use Rattle.model.specs.Rates.{plain}
-use Rattle.model.specs.PlanLaws.{plan_best}
+use Rattle.model.proofs.PlanLaws.{plan_best}
 use Rattle.online.specs.Servers.{across}
 use Rattle.online.specs.ServerLaws.{across_same}
 use Rattle.bounds.specs.History.{recent, left_of, last_use, holds, held, transfers, running_cost}
-use Rattle.bounds.specs.HistoryLaws.{use_none, transfers_most}
-use Rattle.bounds.specs.Seconds.{holds_last, holds_none, spent, spent_last, spent_other, held_zero, held_step}
-use Rattle.bounds.specs.WithinThree.{within_three}
+use Rattle.bounds.proofs.HistoryLaws.{use_none, transfers_most}
+use Rattle.bounds.proofs.Seconds.{holds_last, holds_none, spent, spent_last, spent_other, held_zero, held_step}
+use Rattle.bounds.proofs.WithinThree.{within_three}
 use Rattle.forcing.specs.declared.Game.{Game}
 use Rattle.forcing.specs.Positions.{Position, start, now_at, last_at, Stays, Move, there, holding, after, running, least, within}
 use Rattle.forcing.specs.Forcing.{KeeperForces}

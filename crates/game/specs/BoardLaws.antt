@@ -12,7 +12,7 @@ use Rattle.model.specs.Sums.{sum}
 use Rattle.model.specs.Requests.{Requests}
 use Rattle.model.specs.Rates.{plain}
 use Rattle.model.specs.Table.{best}
-use Rattle.model.specs.BestLaws.{best_zero}
+use Rattle.model.proofs.BestLaws.{best_zero}
 use Rattle.online.specs.Servers.{across}
 use Rattle.online.specs.ServerLaws.{across_same}
 use Rattle.forcing.specs.declared.Game.{Game}

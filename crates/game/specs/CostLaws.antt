@@ -10,12 +10,12 @@ use borrow.Author.Tests.{le-leb, lt-leb, lt-ltb, eq-eqb, ne_eqb}
 use Rattle.base.specs.Choice.{pick, le_or_lt, same_or_not}
 use Rattle.model.specs.Rates.{Rates, plain, rates, some?}
 use Rattle.model.specs.Requests.{Requests, latest, previous}
-use Rattle.model.specs.RequestLaws.{previous_some}
-use Rattle.model.specs.Alike.{Alike, best_alike}
+use Rattle.model.proofs.RequestLaws.{previous_some}
+use Rattle.model.proofs.Alike.{Alike, best_alike}
 use Rattle.model.specs.Marking.{legal, gap}
 use Rattle.model.specs.Table.{open_gap, send_price, cheaper, away_price, may_leave, best}
-use Rattle.model.specs.BestLaws.{best_none, best_forced, best_both}
-use Rattle.model.specs.TableLaws.{span as span_price}
+use Rattle.model.proofs.BestLaws.{best_none, best_forced, best_both}
+use Rattle.model.proofs.TableLaws.{span as span_price}
 use Rattle.forcing.specs.declared.Game.{Game}
 use Rattle.game.specs.declared.board.Board.{Board}
 use Rattle.game.specs.Answers.{Ranged}

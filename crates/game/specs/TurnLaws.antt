@@ -8,7 +8,7 @@ use Rattle.base.specs.Below.{some_below}
 use Rattle.base.specs.BelowLaws.{below_same}
 use Rattle.base.specs.Lists.{build_at}
 use Rattle.model.specs.Rates.{plain}
-use Rattle.model.specs.PlanLaws.{plan_best}
+use Rattle.model.proofs.PlanLaws.{plan_best}
 use Rattle.forcing.specs.declared.Game.{Game}
 use Rattle.game.specs.declared.board.Board.{Board}
 use Rattle.game.specs.Answers.{Ranged}

@@ -15,8 +15,8 @@ use Rattle.model.specs.Schedule.{Row, Stands, Backed, Feasible, cost_of}
 use Rattle.model.specs.RowForm.{row_at, rows_of, flat, well_formed}
 use Rattle.model.specs.LogRequests.{requests_in, rates_in}
 use Rattle.model.specs.Checking.{row_count, check_cost, copy_condition, serve_condition, form_conditions}
-use Rattle.model.specs.FlatLaws.{flat_rows_of}
-use Rattle.model.specs.CheckingLaws.{flat_scheduled, flat_cost, unbacked, unserved}
+use Rattle.model.proofs.FlatLaws.{flat_rows_of}
+use Rattle.model.proofs.CheckingLaws.{flat_scheduled, flat_cost, unbacked, unserved}
 use Rattle.checker.specs.declared.Checked.TheVariants as answer
 use Rattle.checker.specs.Answers.{check_answer, Answered}
 use Rattle.checker.specs.Accepts.{answers_cost}

@@ -14,9 +14,9 @@ use Rattle.online.specs.Answers.{close_verdict, closed_by, closed_answer}
 use Rattle.online.specs.Passed.{close_passed}
 use Rattle.online.specs.ClosingLaws.{remaining_at, remaining_most, closing_more, closing_most}
 use Rattle.bounds.specs.Calls.{Call, verdict, run, TakenClose}
-use Rattle.bounds.specs.CloseLaws.{close_once}
+use Rattle.bounds.proofs.CloseLaws.{close_once}
 use Rattle.bounds.specs.Claim.{Claim, prices, final}
-use Rattle.bounds.specs.ClaimLaws.{closing_fresh}
+use Rattle.bounds.proofs.ClaimLaws.{closing_fresh}
 use Rattle.guarantees.specs.Demand3.{Ready, ready_fresh, online_within_three}
 
 -- a close that is not refused, in any state

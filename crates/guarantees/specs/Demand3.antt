@@ -26,10 +26,10 @@ use Rattle.request_log.specs.Ranges.{Allowed}
 use Rattle.request_log.specs.Contents.{decode, setup_in, first_requests, cut}
 use Rattle.request_log.specs.Cutting.{cut_accepted, cut_decodes, cut_count}
 use Rattle.model.specs.LogRequests.{requests_in, rates_in}
-use Rattle.model.specs.LogRequestLaws.{log_rising, log_within, cut_alike, cut_prices}
-use Rattle.model.specs.Alike.{best_alike}
+use Rattle.model.proofs.LogRequestLaws.{log_rising, log_within, cut_alike, cut_prices}
+use Rattle.model.proofs.Alike.{best_alike}
 use Rattle.model.specs.Plan.{plan_cost, plan_rows}
-use Rattle.model.specs.PlanLaws.{plan_best}
+use Rattle.model.proofs.PlanLaws.{plan_best}
 use Rattle.model.specs.RowForm.{flat}
 use Rattle.checker.specs.declared.Checked.TheVariants as answer
 use Rattle.checker.specs.Answers.{check_answer}
@@ -41,7 +41,7 @@ use Rattle.online.specs.Answers.{start_verdict, log_start_verdict, scan_verdict,
 use Rattle.online.specs.Passed.{log_start_passed, start_passed}
 use Rattle.bounds.specs.Calls.{Call, scan, close, verdict, after}
 use Rattle.bounds.specs.Claim.{Claim}
-use Rattle.bounds.specs.ClaimLaws.{claim}
+use Rattle.bounds.proofs.ClaimLaws.{claim}
 use Rattle.request_log.specs.ConditionLaws.{after_accepted}
 use Rattle.guarantees.specs.CheckerAccepts.{schedule_accepted}
 use Rattle.guarantees.specs.Optimality.{Optimal, optimal}

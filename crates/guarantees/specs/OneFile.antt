@@ -17,7 +17,7 @@ use Rattle.online.specs.Conditions.{broken, scan_conditions}
 use Rattle.online.specs.Answers.{scan_verdict}
 use Rattle.bounds.specs.Calls.{Call, run, of_file, Request}
 use Rattle.bounds.specs.Progress.{begun, taken}
-use Rattle.bounds.specs.OtherFiles.{run_own, taken_unmixed}
+use Rattle.bounds.proofs.OtherFiles.{run_own, taken_unmixed}
 use Rattle.guarantees.specs.Demand3.{Ready, online_within_three}
 
 -- 39

@@ -7,9 +7,9 @@ use Rattle.model.specs.Schedule.{Row, Feasible, cost_of}
 use Rattle.model.specs.RowForm.{well_formed}
 use Rattle.model.specs.Marking.{Mark}
 use Rattle.model.specs.Plan.{plan, plan_cost, plan_rows, Agree, Planned}
-use Rattle.model.specs.MarkingRows.{rows_realize}
-use Rattle.model.specs.PlanLaws.{plan_planned, plan_only}
-use Rattle.model.specs.PlanLeast.{plan_least}
+use Rattle.model.proofs.MarkingRows.{rows_realize}
+use Rattle.model.proofs.PlanLaws.{plan_planned, plan_only}
+use Rattle.model.proofs.PlanLeast.{plan_least}
 
 -- the plan of the first n requests, with servers below the count
 pub record Optimal (p : Rates) (count : ℕ) (q : Requests) (n : ℕ) : Type 0 where

@@ -18,7 +18,7 @@ use Rattle.request_log.specs.Conditions.{Accepted, verdict_of}
 use Rattle.request_log.specs.Contents.{Contents}
 use Rattle.request_log.specs.Answers.{read_verdict, write_verdict}
 use Rattle.model.specs.LogRequests.{prices_in}
-use Rattle.model.specs.LogRequestLaws.{log_priced}
+use Rattle.model.proofs.LogRequestLaws.{log_priced}
 use Rattle.checker.specs.Answers.{check_verdict_of}
 use Rattle.planner.specs.Answers.{plan_verdict, least_verdict}
 use Rattle.quote.specs.declared.Quoted.TheVariants as quote'

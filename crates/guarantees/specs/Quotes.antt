@@ -16,12 +16,12 @@ use Rattle.request_log.specs.Cutting.{cut_count}
 use Rattle.model.specs.Requests.{requests}
 use Rattle.model.specs.Sums.{sum}
 use Rattle.model.specs.LogRequests.{requests_in, prices_in, rates_in}
-use Rattle.model.specs.LogRequestLaws.{log_rising, log_within}
+use Rattle.model.proofs.LogRequestLaws.{log_rising, log_within}
 use Rattle.model.specs.Least.{Least}
 use Rattle.model.specs.Plan.{plan_cost}
-use Rattle.model.specs.PlanLeast.{plan_least}
+use Rattle.model.proofs.PlanLeast.{plan_least}
 use Rattle.model.specs.Quote.{sum_part, hold_part, quote_of}
-use Rattle.model.specs.QuoteLaws.{sum_below, hold_below, quote_above}
+use Rattle.model.proofs.QuoteLaws.{sum_below, hold_below, quote_above}
 use Rattle.planner.specs.Answers.{least_costs}
 use Rattle.quote.specs.declared.Quoted.TheVariants as answer
 use Rattle.quote.specs.Answers.{quote_in, quoted, quote_answer}

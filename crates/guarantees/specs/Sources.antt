@@ -17,13 +17,13 @@ use Rattle.model.specs.RowForm.{flat, well_formed}
 use Rattle.model.specs.Marking.{Mark, S, holds, source, rows_from, rows, Good}
 use Rattle.model.specs.Plan.{plan, plan_cost, plan_rows}
 use Rattle.model.specs.LogRequests.{requests_in, rates_in}
-use Rattle.model.specs.LogRequestLaws.{log_rising, log_within}
-use Rattle.model.specs.HolderLaws.{holder_below}
-use Rattle.model.specs.MarkLaws.{sends_S}
-use Rattle.model.specs.RowMembers.{Made, as_hold, as_transfer, as_upload, rows_row, transfer_in}
-use Rattle.model.specs.RowsCost.{rows_as_many}
-use Rattle.model.specs.MarkingRows.{rows_from_realize, source_nearest}
-use Rattle.model.specs.PlanLaws.{plan_planned}
+use Rattle.model.proofs.LogRequestLaws.{log_rising, log_within}
+use Rattle.model.proofs.HolderLaws.{holder_below}
+use Rattle.model.proofs.MarkLaws.{sends_S}
+use Rattle.model.proofs.RowMembers.{Made, as_hold, as_transfer, as_upload, rows_row, transfer_in}
+use Rattle.model.proofs.RowsCost.{rows_as_many}
+use Rattle.model.proofs.MarkingRows.{rows_from_realize, source_nearest}
+use Rattle.model.proofs.PlanLaws.{plan_planned}
 use Rattle.checker.specs.declared.Checked.TheVariants as answer
 use Rattle.checker.specs.Answers.{check_answer}
 use Rattle.guarantees.specs.CheckerAccepts.{schedule_accepted}

@@ -24,14 +24,14 @@ use Rattle.model.specs.Rates.{Rates, rates, plain, some?, or_zero, offers}
 use Rattle.model.specs.Sums.{total}
 use Rattle.model.specs.Requests.{Requests, Rising, Within}
 use Rattle.model.specs.Schedule.{Row, move, upload, Feasible, length_of, is_transfer, is_upload, cost_of}
-use Rattle.model.specs.RateLaws.{no_upload, no_uploads}
+use Rattle.model.proofs.RateLaws.{no_upload, no_uploads}
 use Rattle.model.specs.Marking.{Mark, K, S, U, legal, Valid, cost, source, rows}
-use Rattle.model.specs.MarkLaws.{loads_U}
-use Rattle.model.specs.RowMembers.{Made, as_hold, as_transfer, as_upload, rows_row, upload_in}
+use Rattle.model.proofs.MarkLaws.{loads_U}
+use Rattle.model.proofs.RowMembers.{Made, as_hold, as_transfer, as_upload, rows_row, upload_in}
 use Rattle.model.specs.Plan.{plan, plan_cost, plan_rows, rank, Before}
-use Rattle.model.specs.PlanLaws.{plan_planned}
+use Rattle.model.proofs.PlanLaws.{plan_planned}
 use Rattle.model.specs.LogRequests.{requests_in, prices_in}
-use Rattle.model.specs.LogRequestLaws.{log_rising, log_within}
+use Rattle.model.proofs.LogRequestLaws.{log_rising, log_within}
 use Rattle.checker.specs.Answers.{check_conditions, check_verdict_of}
 use Rattle.planner.specs.Answers.{plan_verdict, least_costs, least_verdict}
 use Rattle.request_log.specs.ConditionLaws.{after_accepted}

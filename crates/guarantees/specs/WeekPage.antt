@@ -15,12 +15,12 @@ use Rattle.request_log.specs.Fields.{server_count_of, request_count}
 use Rattle.request_log.specs.Conditions.{Accepted, before}
 use Rattle.request_log.specs.ConditionLaws.{after_accepted}
 use Rattle.model.specs.LogRequests.{requests_in, prices_in, rates_in}
-use Rattle.model.specs.LogRequestLaws.{log_rising, log_within}
+use Rattle.model.proofs.LogRequestLaws.{log_rising, log_within}
 use Rattle.model.specs.Plan.{plan_cost, plan_rows}
 use Rattle.model.specs.Rates.{rates, or_zero}
 use Rattle.model.specs.Schedule.{Row, hold, move, length_of, is_transfer, cost_of}
 use Rattle.model.specs.Sums.{sum, total}
-use Rattle.model.specs.SumLaws.{sum_zero}
+use Rattle.model.proofs.SumLaws.{sum_zero}
 use Rattle.planner.specs.Answers.{planned_rows}
 use Rattle.week.specs.Days.{day_seconds, week_days, week_seconds, holds_over, held_over, cell, server_days, day_sums, line_sum, held_at}
 use Rattle.week.specs.DayLaws.{cell_most}

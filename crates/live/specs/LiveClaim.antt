@@ -20,10 +20,10 @@ use Rattle.request_log.specs.AnswerLaws.{accepted_header}
 use Rattle.request_log.specs.AcceptedLaws.{accepted_class, accepted_sound, seconds_length, servers_length}
 use Rattle.model.specs.Requests.{requests}
 use Rattle.model.specs.LogRequests.{requests_in, prices_in, rates_in}
-use Rattle.model.specs.LogRequestLaws.{log_priced, log_rising, log_within, cut_prices}
+use Rattle.model.proofs.LogRequestLaws.{log_priced, log_rising, log_within, cut_prices}
 use Rattle.model.specs.Plan.{plan_cost}
-use Rattle.model.specs.PlanLeast.{plan_least}
-use Rattle.model.specs.QuoteLaws.{hold_below}
+use Rattle.model.proofs.PlanLeast.{plan_least}
+use Rattle.model.proofs.QuoteLaws.{hold_below}
 use Rattle.online.specs.declared.Cache.{Cache}
 use Rattle.online.specs.declared.RunningCost.TheVariants.{Cost}
 use Rattle.online.specs.Rules.{running}
@@ -33,7 +33,7 @@ use Rattle.online.specs.Intact.{intact_unbroken}
 use Rattle.bounds.specs.Calls.{verdicts, requests_of}
 use Rattle.bounds.specs.Progress.{begun, taken}
 use Rattle.bounds.specs.Claim.{Claim, served, served_count}
-use Rattle.bounds.specs.ClaimLaws.{claim}
+use Rattle.bounds.proofs.ClaimLaws.{claim}
 use Rattle.live.specs.Live.{calls_of, state_after, opened, running_bill, state_of}
 use Rattle.live.specs.LiveLaws.{Runs, opened_fresh, goes_on, intact_after}
 use Rattle.live.specs.LiveCalls.{scans_passed, request, scans_taken, requests_taken}

@@ -19,16 +19,16 @@ use Rattle.request_log.specs.Ranges as ranges
 use Rattle.request_log.specs.AcceptedLaws as accepted
 use Rattle.model.specs.Requests.{Requests, requests}
 use Rattle.model.specs.LogRequests.{requests_in, prices_in}
-use Rattle.model.specs.LogRequestLaws.{log_priced}
+use Rattle.model.proofs.LogRequestLaws.{log_priced}
 use Rattle.online.specs.declared.Cache.{Cache}
 use Rattle.online.specs.declared.ScanOutcome.TheVariants as scan'
 use Rattle.online.specs.Rules.{fresh, kept, accept, running}
 use Rattle.online.specs.Conditions.{scan_conditions, close_conditions}
 use Rattle.online.specs.Answers.{log_start_verdict, scan_verdict, close_verdict, started_for_log, started_by, mark_outcome, scanned, scanned_by}
 use Rattle.bounds.specs.Calls.{Call, scan, after, run}
-use Rattle.bounds.specs.CallLaws.{after_scan}
+use Rattle.bounds.proofs.CallLaws.{after_scan}
 use Rattle.online.specs.Intact.{Intact, intact_unbroken}
-use Rattle.bounds.specs.Reached.{Reached, reached_fresh, reached_scan, reached_intact}
+use Rattle.bounds.proofs.Reached.{Reached, reached_fresh, reached_scan, reached_intact}
 use Rattle.live.specs.declared.Turn.{Turn}
 use Rattle.live.specs.Live.{scans, state_after, live_mark, live_cost, opened}
 use Rattle.live.specs.Replies.{outcome_letter, outcome_cost, turn}

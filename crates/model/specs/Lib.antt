@@ -1,5 +1,5 @@
 -- Crate model: 01's 'Schedules' and 'The plan', with 02's uploads, and 02's quote.
--- What a reader believes: the definitions.
+-- What a reader believes: the definitions. What is proved of them is in proofs/.
 pub mod Sums
 pub mod Rates
 pub mod Requests
@@ -12,49 +12,5 @@ pub mod Least
 pub mod Quote
 pub mod Checking
 pub mod LogRequests
--- What is proved of them.
-pub mod Alike
-pub mod BestLaws
-pub mod Bounds
-pub mod CheckingLaws
-pub mod CostBound
-pub mod CountLaws
-pub mod Demand
-pub mod Exchange
-pub mod Fate
-pub mod FlatLaws
-pub mod FormLaws
-pub mod HolderCount
-pub mod HolderLaws
-pub mod LeastLaws
-pub mod Leaving
-pub mod LegalLaws
-pub mod LogRequestLaws
-pub mod LowerBound
-pub mod MarkLaws
-pub mod MarkingRows
-pub mod MoveRows
-pub mod Once
-pub mod PartCost
-pub mod PlanLaws
-pub mod PlanLeast
-pub mod QuoteLaws
-pub mod RateLaws
-pub mod RecentLaws
-pub mod RequestLaws
-pub mod RowLaws
-pub mod RowMembers
-pub mod RowsCost
-pub mod RowsFeasible
-pub mod RowsFormed
-pub mod RunLaws
-pub mod SpanSeconds
-pub mod StandingLaws
-pub mod SumLaws
+-- The plan's costs as a table.
 pub mod Table
-pub mod TableLaws
-pub mod TableLists
-pub mod TableRows
-pub mod TestLaws
-pub mod Ties
-pub mod Walk

@@ -6,8 +6,8 @@ use Rattle.base.specs.ChoiceLaws.{either_false}
 use Rattle.base.specs.Sets.{has, put}
 use Rattle.base.specs.SetLaws.{has_none, has_put, has_put_other}
 use Rattle.model.specs.Sums.{sum}
-use Rattle.model.specs.SumLaws.{sum_le, sum_same, sum_add, sum_term, sum_swap}
-use Rattle.model.specs.CountLaws.{sum_server}
+use Rattle.model.proofs.SumLaws.{sum_le, sum_same, sum_add, sum_term, sum_swap}
+use Rattle.model.proofs.CountLaws.{sum_server}
 use Rattle.online.specs.Servers.{across, set_of, some_server}
 
 -- ---- sums

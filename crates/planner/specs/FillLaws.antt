@@ -6,8 +6,8 @@ use Rattle.std.proofs.lemmas.List.{set_at}
 use Rattle.std.proofs.Math.Seq.{append_snoc}
 use Rattle.model.specs.Rates.{Rates}
 use Rattle.model.specs.Requests.{Requests}
-use Rattle.model.specs.TableRows.{next_D, next_C, Tabled, next_D_same, tabled_same}
-use Rattle.model.specs.TableLists.{at, lists, lists_length, lists_tabled}
+use Rattle.model.proofs.TableRows.{next_D, next_C, Tabled, next_D_same, tabled_same}
+use Rattle.model.proofs.TableLists.{at, lists, lists_length, lists_tabled}
 
 -- one more element after those at the front
 pub set_next : (xs o : List ℕ) (k v : ℕ) → length xs ≡ k → k < length o → set (xs ++ drop k o) k v ≡ (xs ++ (v ∷ [])) ++ drop (suc k) o

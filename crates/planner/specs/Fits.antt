@@ -5,10 +5,10 @@ use Rattle.model.specs.Rates.{Rates, upload_fee}
 use Rattle.request_log.specs.Sizes.{most_requests}
 use Rattle.model.specs.Requests.{Requests, previous, Rising}
 use Rattle.model.specs.Table.{best}
-use Rattle.model.specs.TableLaws.{span}
-use Rattle.model.specs.TableLists.{at}
-use Rattle.model.specs.TableRows.{Tabled, row, row_is}
-use Rattle.model.specs.Bounds.{best_rises, best_most, owns_most}
+use Rattle.model.proofs.TableLaws.{span}
+use Rattle.model.proofs.TableLists.{at}
+use Rattle.model.proofs.TableRows.{Tabled, row, row_is}
+use Rattle.model.proofs.Bounds.{best_rises, best_most, owns_most}
 use Rattle.planner.specs.Asked.{asks}
 use Rattle.planner.specs.Terms.{index, terms_of, own_cost}
 

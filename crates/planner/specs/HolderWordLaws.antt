@@ -11,12 +11,12 @@ use Rattle.base.specs.SetLaws.{has_none, has_put, has_put_other, has_cut, has_cu
 use Rattle.base.specs.WordLaws.{leading_highest}
 use Rattle.model.specs.Rates.{Rates}
 use Rattle.model.specs.Requests.{Requests, Within}
-use Rattle.model.specs.RequestLaws.{previous_some}
+use Rattle.model.proofs.RequestLaws.{previous_some}
 use Rattle.model.specs.Marking.{Mark, K, S, U, keeps, loads, spans, any, covered, holds, Valid}
 use Rattle.base.specs.ChoiceLaws.{both_true}
-use Rattle.model.specs.TestLaws.{any_true, any_has}
-use Rattle.model.specs.LegalLaws.{kept_from}
-use Rattle.model.specs.HolderLaws.{Span, spans_true, spans_over}
+use Rattle.model.proofs.TestLaws.{any_true, any_has}
+use Rattle.model.proofs.LegalLaws.{kept_from}
+use Rattle.model.proofs.HolderLaws.{Span, spans_true, spans_over}
 use Rattle.planner.specs.HolderWords.{joined, kept_step, kept_word, or_server, holders_word}
 
 -- tests that follow from each other are one

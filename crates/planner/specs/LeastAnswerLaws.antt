@@ -15,8 +15,8 @@ use Rattle.request_log.specs.Fields.{request_count}
 use Rattle.model.specs.Rates.{Rates}
 use Rattle.model.specs.Requests.{Requests}
 use Rattle.model.specs.Plan.{plan_cost}
-use Rattle.model.specs.PlanLaws.{plan_best}
-use Rattle.model.specs.TableLists.{lists, lists_length, lists_costs}
+use Rattle.model.proofs.PlanLaws.{plan_best}
+use Rattle.model.proofs.TableLists.{lists, lists_length, lists_costs}
 use Rattle.model.specs.LogRequests.{requests_in, rates_in}
 use Rattle.planner.specs.declared.LeastCosts.{LeastCosts}
 use Rattle.planner.specs.declared.requests.Summary.{Summary}

@@ -3,8 +3,8 @@ use Rattle.std.specs.Prelude.{List, ◌++◌, ◌≡◌, ℕ, suc, ◌<◌, leng
 use Rattle.base.specs.Lists.{build}
 use Rattle.base.specs.LentLaws.{fill_next}
 use Rattle.model.specs.Requests.{latest}
-use Rattle.model.specs.RecentLaws.{recents, recents_at}
-use Rattle.model.specs.TableLists.{at}
+use Rattle.model.proofs.RecentLaws.{recents, recents_at}
+use Rattle.model.proofs.TableLists.{at}
 use Rattle.planner.specs.Terms.{index}
 
 module _ (s : ℕ → ℕ) where

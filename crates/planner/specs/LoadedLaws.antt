@@ -22,13 +22,13 @@ use Rattle.request_log.specs.Ranges.{Sound}
 use Rattle.request_log.specs.AcceptedLaws.{accepted_sound, servers_length}
 use Rattle.base.specs.declared.Refusal.{Refusal}
 use Rattle.model.specs.Requests.{Requests, requests, latest, previous}
-use Rattle.model.specs.TableLists.{at}
+use Rattle.model.proofs.TableLists.{at}
 use Rattle.model.specs.LogRequests.{requests_in, rates_in}
 use Rattle.model.specs.Rates.{rates}
-use Rattle.model.specs.LogRequestLaws.{sound_seconds, log_rising, log_priced}
+use Rattle.model.proofs.LogRequestLaws.{sound_seconds, log_rising, log_priced}
 use Rattle.planner.specs.Asked.{asks}
 use Rattle.planner.specs.Terms.{index}
-use Rattle.model.specs.RateLaws.{fee_most}
+use Rattle.model.proofs.RateLaws.{fee_most}
 use Rattle.planner.specs.Fits.{Fits, Ready}
 use Rattle.planner.specs.Loading.{seconds_with_home, servers_with_home, links}
 

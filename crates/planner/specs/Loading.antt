@@ -10,7 +10,7 @@ use Rattle.prices.specs.Uploads.{upload_conditions}
 use Rattle.request_log.specs.Fields.{home_of, server_count_of, request_count, seconds_of, servers_of}
 use Rattle.request_log.specs.Conditions.{verdict_of}
 use Rattle.model.specs.Requests.{latest}
-use Rattle.model.specs.TableLists.{at}
+use Rattle.model.proofs.TableLists.{at}
 use Rattle.model.specs.LogRequests.{prices_in}
 use Rattle.planner.specs.declared.requests.Summary.{Summary}
 use Rattle.planner.specs.declared.requests.Loaded.{Loaded}

@@ -15,8 +15,8 @@ use Rattle.request_log.specs.Sizes.{most_requests}
 use Rattle.model.specs.Requests.{Within}
 use Rattle.model.specs.Schedule.{Row}
 use Rattle.model.specs.RowForm.{flat}
-use Rattle.model.specs.FlatLaws.{flat_length}
-use Rattle.model.specs.TableLists.{at}
+use Rattle.model.proofs.FlatLaws.{flat_length}
+use Rattle.model.proofs.TableLists.{at}
 use Rattle.planner.specs.Sizes.{places}
 use Rattle.planner.specs.HolderWords.{gap_word, marking}
 use Rattle.planner.specs.Asked.{asks}

@@ -13,9 +13,9 @@ use Rattle.prices.specs.Tariff.{Tariff}
 use Rattle.request_log.specs.Fields.{request_count}
 use Rattle.model.specs.Requests.{Requests, Within}
 use Rattle.model.specs.Marking.{Mark, K, S, U, legal, rows, Valid}
-use Rattle.model.specs.TableRows.{Tabled}
+use Rattle.model.proofs.TableRows.{Tabled}
 use Rattle.model.specs.Plan.{plan, plan_cost, plan_rows, Agree}
-use Rattle.model.specs.PlanLaws.{plan_planned, plan_best}
+use Rattle.model.proofs.PlanLaws.{plan_planned, plan_best}
 use Rattle.model.specs.LogRequests.{requests_in, rates_in}
 use Rattle.model.specs.Rates.{Rates}
 use Rattle.planner.specs.declared.Planned.{Planned}

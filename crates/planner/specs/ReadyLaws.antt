@@ -5,10 +5,10 @@ use Rattle.std.proofs.Common.{◌∙◌, arith}
 use Rattle.std.proofs.Math.Numerals.{add-one}
 use Rattle.base.specs.Choice.{either}
 use Rattle.model.specs.Rates.{Rates, some?}
-use Rattle.model.specs.RequestLaws.{rises_le}
+use Rattle.model.proofs.RequestLaws.{rises_le}
 use Rattle.model.specs.Marking.{legal, gap}
 use Rattle.model.specs.Table.{may_leave}
-use Rattle.model.specs.TableLists.{at}
+use Rattle.model.proofs.TableLists.{at}
 use Rattle.planner.specs.declared.table.Terms.{Terms}
 use Rattle.planner.specs.Asked.{asks}
 use Rattle.planner.specs.Terms.{index, span_from, terms_of}

@@ -14,12 +14,12 @@ use Rattle.request_log.specs.Fields.{server_count_of, request_count}
 use Rattle.request_log.specs.Conditions.{Accepted, log_conditions, verdict_of}
 use Rattle.request_log.specs.ConditionLaws.{after_log}
 use Rattle.request_log.specs.AcceptedLaws.{accepted_sound}
-use Rattle.model.specs.FlatLaws.{flat_length}
+use Rattle.model.proofs.FlatLaws.{flat_length}
 use Rattle.model.specs.LogRequests.{requests_in}
-use Rattle.model.specs.LogRequestLaws.{log_within}
+use Rattle.model.proofs.LogRequestLaws.{log_within}
 use Rattle.model.specs.Marking.{rows}
 use Rattle.model.specs.Plan.{plan_rows}
-use Rattle.model.specs.RowsCost.{rows_few}
+use Rattle.model.proofs.RowsCost.{rows_few}
 use Rattle.planner.specs.Sizes.{places, rows_room}
 use Rattle.planner.specs.Answers.{planned_rows, rows_of_plan, plan_verdict, least_verdict}
 

@@ -12,11 +12,11 @@ use Rattle.base.specs.Choice.{pick, both, le_or_lt, true_or_false}
 use Rattle.base.specs.Sets.{has, members}
 use Rattle.base.specs.SetLaws.{has_none}
 use Rattle.model.specs.Sums.{sum}
-use Rattle.model.specs.SumLaws.{sum_same, sum_add, sum_zero}
+use Rattle.model.proofs.SumLaws.{sum_same, sum_add, sum_zero}
 use Rattle.model.specs.Requests.{Requests, Within}
 use Rattle.model.specs.Schedule.{Row, move, transfer, upload}
 use Rattle.model.specs.Marking.{Mark, K, S, U, keeps, sends, loads, begins_run, hold_rows, all_holds, transfers, uploads, source, rows_from, rows}
-use Rattle.model.specs.RunLaws.{hold_rows_count}
+use Rattle.model.proofs.RunLaws.{hold_rows_count}
 use Rattle.model.specs.Plan.{Agree}
 use Rattle.planner.specs.WordRows.{holder_at, word_holds}
 use Rattle.planner.specs.WordRowLaws.{Right, member_below, word_holds_right}

@@ -6,12 +6,12 @@ use Rattle.std.proofs.Math.Path.{refl}
 use Rattle.base.specs.Choice.{pick, le_or_lt, same_or_not}
 use Rattle.model.specs.Rates.{Rates}
 use Rattle.model.specs.Requests.{Requests, previous}
-use Rattle.model.specs.RequestLaws.{previous_some}
+use Rattle.model.proofs.RequestLaws.{previous_some}
 use Rattle.model.specs.Table.{shut_price, may_leave, best}
-use Rattle.model.specs.TableRows.{row_step, row, kept_best, Tabled, row_next, row_is}
-use Rattle.model.specs.TableLists.{at}
-use Rattle.model.specs.BestLaws.{legal_S}
-use Rattle.model.specs.Bounds.{best_rises}
+use Rattle.model.proofs.TableRows.{row_step, row, kept_best, Tabled, row_next, row_is}
+use Rattle.model.proofs.TableLists.{at}
+use Rattle.model.proofs.BestLaws.{legal_S}
+use Rattle.model.proofs.Bounds.{best_rises}
 use Rattle.planner.specs.declared.table.Terms.{Terms}
 use Rattle.planner.specs.Asked.{asks}
 use Rattle.planner.specs.Terms.{index, span_from, terms_of, shut_by, first_price, lesser, own_cost, next_cost}

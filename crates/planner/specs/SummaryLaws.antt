@@ -18,7 +18,7 @@ use Rattle.request_log.specs.ConditionLaws.{after_log}
 use Rattle.model.specs.Requests.{Within}
 use Rattle.model.specs.LogRequests.{requests_in, prices_in, rates_in}
 use Rattle.model.specs.Rates.{Rates}
-use Rattle.model.specs.LogRequestLaws.{log_within}
+use Rattle.model.proofs.LogRequestLaws.{log_within}
 use Rattle.planner.specs.declared.requests.Summary.{Summary}
 use Rattle.planner.specs.declared.requests.Loaded.{Loaded}
 use Rattle.planner.specs.declared.requests.Loaded.TheVariants as loaded'

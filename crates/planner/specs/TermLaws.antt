@@ -7,10 +7,10 @@ use native.Mathlib.Omega.{arith}
 use borrow.Author.Tests.{ne_eqb}
 use Rattle.model.specs.Rates.{Rates, or_zero}
 use Rattle.model.specs.Requests.{Requests, previous}
-use Rattle.model.specs.RequestLaws.{previous_some}
+use Rattle.model.proofs.RequestLaws.{previous_some}
 use Rattle.model.specs.Marking.{gap}
 use Rattle.model.specs.Table.{cheaper, open_price}
-use Rattle.model.specs.TableRows.{row, next_D, next_C}
+use Rattle.model.proofs.TableRows.{row, next_D, next_C}
 use Rattle.planner.specs.declared.table.Terms.{Terms}
 use Rattle.planner.specs.Terms.{index, span_from, terms_of, bare_by, lesser}
 use Rattle.planner.specs.Fits.{Fits, span_small}

@@ -6,7 +6,7 @@ use Rattle.model.specs.Rates.{Rates}
 use Rattle.model.specs.Requests.{Requests, previous}
 use Rattle.model.specs.Marking.{S, legal, gap}
 use Rattle.model.specs.Table.{cheaper, cheaper_mark, may_leave}
-use Rattle.model.specs.TableLaws.{span}
+use Rattle.model.proofs.TableLaws.{span}
 use Rattle.planner.specs.Answers.{letter}
 use Rattle.planner.specs.declared.table.Away.{Away}
 use Rattle.planner.specs.declared.table.Terms.{Terms}

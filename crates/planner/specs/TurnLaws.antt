@@ -7,11 +7,11 @@ use borrow.Author.Tests.{lt-ltb, le-ltb, ne_eqb}
 use Rattle.base.specs.Choice.{le_or_lt, not_both}
 use Rattle.model.specs.Rates.{Rates}
 use Rattle.model.specs.Requests.{Requests, previous}
-use Rattle.model.specs.RequestLaws.{previous_some}
+use Rattle.model.proofs.RequestLaws.{previous_some}
 use Rattle.model.specs.Table.{send_price, away_price, away_mark, shut_price, best}
-use Rattle.model.specs.TableLaws.{span, open_gap_shut, open_gap_open}
+use Rattle.model.proofs.TableLaws.{span, open_gap_shut, open_gap_open}
 use Rattle.model.specs.Marking.{gap}
-use Rattle.model.specs.Walk.{kept_here, turn, turn_mark, turn_c, turn_v, turn_price, turn_right}
+use Rattle.model.proofs.Walk.{kept_here, turn, turn_mark, turn_c, turn_v, turn_price, turn_right}
 use Rattle.planner.specs.declared.table.Terms.{Terms}
 use Rattle.planner.specs.Answers.{letter}
 use Rattle.planner.specs.Terms.{index, span_from, away_of, terms_of, shut_by, kept_by, sent_by}

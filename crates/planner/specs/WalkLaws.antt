@@ -10,8 +10,8 @@ use Rattle.model.specs.Rates.{Rates}
 use Rattle.model.specs.Requests.{Requests}
 use Rattle.model.specs.Marking.{Mark}
 use Rattle.model.specs.Plan.{plan}
-use Rattle.model.specs.TableRows.{Tabled}
-use Rattle.model.specs.Walk.{turn, turn_mark, turn_c, turn_v, walk, walk_plan, listed}
+use Rattle.model.proofs.TableRows.{Tabled}
+use Rattle.model.proofs.Walk.{turn, turn_mark, turn_c, turn_v, walk, walk_plan, listed}
 use Rattle.planner.specs.declared.walk.Turn.{Turn}
 use Rattle.planner.specs.Answers.{letter}
 use Rattle.planner.specs.Walked.{turned, walked}

@@ -3,8 +3,8 @@ use Rattle.std.specs.Prelude.{List, map, ◌≡◌, ℕ, suc}
 use Rattle.std.proofs.Math.Option.{some}
 use Rattle.model.specs.Rates.{Rates}
 use Rattle.model.specs.Requests.{Requests, previous}
-use Rattle.model.specs.TableRows.{kept_best}
-use Rattle.model.specs.Walk.{turn, turn_mark, turn_c, turn_v, walk}
+use Rattle.model.proofs.TableRows.{kept_best}
+use Rattle.model.proofs.Walk.{turn, turn_mark, turn_c, turn_v, walk}
 use Rattle.planner.specs.declared.walk.Turn.{Turn}
 use Rattle.planner.specs.Answers.{letter}
 

@@ -14,8 +14,8 @@ use Rattle.model.specs.Requests.{Requests, Within}
 use Rattle.model.specs.Schedule.{Row, move, transfer}
 use Rattle.model.specs.Marking.{Mark, K, S, U, sends, loads, holds, begins_run, run_end, hold_rows, all_holds, transfers, uploads, source, rows_from, rows, Valid}
 use Rattle.model.specs.Plan.{Agree}
-use Rattle.model.specs.HolderLaws.{holder_below}
-use Rattle.model.specs.MarkingRows.{source_nearest}
+use Rattle.model.proofs.HolderLaws.{holder_below}
+use Rattle.model.proofs.MarkingRows.{source_nearest}
 use Rattle.planner.specs.HolderWords.{kept_word, holders_word, gap_word}
 use Rattle.planner.specs.HolderWordLaws.{holders_has}
 use Rattle.planner.specs.WordRows.{holder_at, word_holds, word_source, word_rows}

@@ -7,7 +7,7 @@ ghost use Rattle.prices.specs.PriceFile.{table_in};
 ghost use Rattle.prices.specs.PriceLaws.{Priced};
 ghost use Rattle.prices.specs.Tariff.{tariff, built_in, price_file};
 ghost use Rattle.prices.specs.Uploads.{if_given};
-ghost use Rattle.model.specs.TableLists.{lists};
+ghost use Rattle.model.proofs.TableLists.{lists};
 ghost use Rattle.planner.specs.Answers.{least_verdict, least_answer, costs_left};
 ghost use Rattle.planner.specs.Asked.{asks};
 ghost use Rattle.planner.specs.Fees.{rated};

@@ -4,7 +4,7 @@ ghost use Rattle.std.specs.Int.Bits.{bit_and};
 ghost use Rattle.base.specs.Choice.{pick};
 ghost use Rattle.base.specs.Lists.{build};
 ghost use Rattle.base.specs.Sets.{members};
-ghost use Rattle.model.specs.TableLists.{at};
+ghost use Rattle.model.proofs.TableLists.{at};
 ghost use Rattle.request_log.specs.Sizes.{most_requests};
 ghost use Rattle.planner.specs.Sizes.{places};
 ghost use Rattle.planner.specs.HolderWords.{kept_step, or_server, gap_word, marking};

@@ -8,7 +8,7 @@ ghost use Rattle.prices.specs.Uploads.{if_given};
 ghost use Rattle.request_log.specs.Fields.{request_count, seconds_of, servers_of};
 ghost use Rattle.request_log.specs.Conditions.{verdict_of};
 ghost use Rattle.request_log.specs.Answers.{decoded};
-ghost use Rattle.model.specs.TableLists.{at};
+ghost use Rattle.model.proofs.TableLists.{at};
 ghost use Rattle.request_log.specs.Sizes.{most_requests};
 ghost use Rattle.planner.specs.Sizes.{places};
 ghost use Rattle.planner.specs.Fees.{fees_of};

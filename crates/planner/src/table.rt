@@ -2,8 +2,8 @@
 ghost use Rattle.std.specs.Prelude.{◌≡◌, ◌++◌, suc, ◌+◌, ◌*◌, ◌-◌, ◌^◌, ◌≤◌, ◌<◌, min, length, drop, set};
 ghost use Rattle.base.specs.Choice.{either};
 ghost use Rattle.model.specs.Rates.{some?};
-ghost use Rattle.model.specs.TableLists.{at, lists};
-ghost use Rattle.model.specs.TableRows.{row, next_D, next_C, Tabled};
+ghost use Rattle.model.proofs.TableLists.{at, lists};
+ghost use Rattle.model.proofs.TableRows.{row, next_D, next_C, Tabled};
 ghost use Rattle.planner.specs.Asked.{asks};
 ghost use Rattle.planner.specs.Fees.{price_given, rated};
 ghost use Rattle.planner.specs.Terms.{away_of, terms_of, shut_by, bare_by, first_price, lesser, own_cost, next_cost};

@@ -3,8 +3,8 @@ ghost use Rattle.std.specs.Prelude.{◌++◌, ◌≡◌, suc, ◌^◌, ◌≤◌
 ghost use Rattle.base.specs.Lists.{build};
 ghost use Rattle.model.specs.Plan.{plan};
 ghost use Rattle.model.specs.Table.{best};
-ghost use Rattle.model.specs.TableLists.{at};
-ghost use Rattle.model.specs.TableRows.{Tabled};
+ghost use Rattle.model.proofs.TableLists.{at};
+ghost use Rattle.model.proofs.TableRows.{Tabled};
 ghost use Rattle.planner.specs.Answers.{letter};
 ghost use Rattle.planner.specs.Asked.{asks};
 ghost use Rattle.planner.specs.Fees.{rated};

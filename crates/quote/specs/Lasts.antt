@@ -11,12 +11,12 @@ use Rattle.request_log.specs.Fields.{home_of, request_count, length_for}
 use Rattle.request_log.specs.Ranges.{Sound}
 use Rattle.model.specs.Sums.{sum}
 use Rattle.model.specs.Requests.{Requests, requests, previous, Rising, Within}
-use Rattle.model.specs.RequestLaws.{previous_some, rises_le}
+use Rattle.model.proofs.RequestLaws.{previous_some, rises_le}
 use Rattle.model.specs.LogRequests.{requests_in}
-use Rattle.model.specs.LogRequestLaws.{time_read, server_read, sound_rising, sound_seconds, sound_within}
+use Rattle.model.proofs.LogRequestLaws.{time_read, server_read, sound_rising, sound_seconds, sound_within}
 use Rattle.model.specs.Quote.{least_own, sum_part}
-use Rattle.model.specs.RecentLaws.{recents, recents_zero, recents_at, recents_next}
-use Rattle.model.specs.TableLists.{at}
+use Rattle.model.proofs.RecentLaws.{recents, recents_zero, recents_at, recents_next}
+use Rattle.model.proofs.TableLists.{at}
 
 -- what stands for the last second of a server without a request
 abbrev pub no_second : ℕ

@@ -6,9 +6,9 @@ use Rattle.prices.specs.declared.Prices.{Prices}
 use Rattle.prices.specs.Prices.{InRange}
 use Rattle.request_log.specs.Fields.{request_count}
 use Rattle.request_log.specs.Ranges.{Sound}
-use Rattle.model.specs.Bounds.{owns_most}
+use Rattle.model.proofs.Bounds.{owns_most}
 use Rattle.model.specs.LogRequests.{requests_in}
-use Rattle.model.specs.LogRequestLaws.{sound_seconds}
+use Rattle.model.proofs.LogRequestLaws.{sound_seconds}
 use Rattle.model.specs.Quote.{sum_part, hold_part}
 use Rattle.model.specs.Rates.{rates, plain}
 

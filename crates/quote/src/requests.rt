@@ -5,7 +5,7 @@ ghost use Rattle.request_log.specs.Fields.{request_count};
 ghost use Rattle.request_log.specs.Ranges.{Sound};
 ghost use Rattle.model.specs.LogRequests.{requests_in};
 ghost use Rattle.model.specs.Quote.{sum_part};
-ghost use Rattle.model.specs.TableLists.{at};
+ghost use Rattle.model.proofs.TableLists.{at};
 ghost use Rattle.quote.specs.Lasts.{own_since};
 
 use base::bytes::{at, at16};

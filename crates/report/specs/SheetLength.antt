@@ -13,7 +13,7 @@ use Rattle.request_log.specs.Conditions.{Accepted}
 use Rattle.request_log.specs.AcceptedLaws.{accepted_sound}
 use Rattle.model.specs.LogRequests.{requests_in, rates_in}
 use Rattle.model.specs.Plan.{plan_cost}
-use Rattle.model.specs.PlanLaws.{plan_best}
+use Rattle.model.proofs.PlanLaws.{plan_best}
 use Rattle.planner.specs.Answers.{planned_rows, least_costs}
 use Rattle.planner.specs.Fits.{best_small}
 use Rattle.planner.specs.LoadedLaws.{log_fits}

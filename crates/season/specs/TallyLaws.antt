@@ -6,7 +6,7 @@ use Rattle.base.specs.Lists.{build, build_at, build_same}
 use Rattle.base.specs.declared.Verdict.{Verdict}
 use Rattle.base.specs.declared.Verdict.TheVariants.{Passed, Refused}
 use Rattle.model.specs.Sums.{total}
-use Rattle.model.specs.SumLaws.{total_append}
+use Rattle.model.proofs.SumLaws.{total_append}
 use Rattle.season.specs.declared.Met.{Met}
 use Rattle.season.specs.declared.Worst.{Worst}
 use Rattle.season.specs.Tallies.{numbers, one_if, accepts, refuses, ends, no_worst, worse, worst_of, ended, tally_of}

@@ -7,11 +7,11 @@ use Rattle.std.proofs.Math.Path.{refl}
 use Rattle.base.specs.Choice.{pick, both, same_or_not, true_or_false, not_both}
 use Rattle.base.specs.ChoiceLaws.{both_true, either_true}
 use Rattle.model.specs.Sums.{sum, total}
-use Rattle.model.specs.SumLaws.{sum_same, sum_zero, sum_beyond, total_same, sum_total, inside, sum_inside}
-use Rattle.model.specs.CountLaws.{sum_at_most}
+use Rattle.model.proofs.SumLaws.{sum_same, sum_zero, sum_beyond, total_same, sum_total, inside, sum_inside}
+use Rattle.model.proofs.CountLaws.{sum_at_most}
 use Rattle.model.specs.Schedule.{Row, hold, move}
 use Rattle.model.specs.RowForm.{fits, follows, ordered, all_fit}
-use Rattle.model.specs.RowLaws.{fits_hold}
+use Rattle.model.proofs.RowLaws.{fits_hold}
 use Rattle.week.specs.Days.{day_seconds, holds_over, held_over, cell}
 
 -- the seconds of a hold from a to b that lie in day d: those before the day's end less those before its begin

@@ -7,7 +7,7 @@ use Rattle.base.specs.Lists.{build, build_length, build_at, build_same, build_se
 use Rattle.model.specs.Schedule.{Row, hold, move, transfer, upload}
 use Rattle.model.specs.RowForm.{row_of, row_at, rows_upto}
 use Rattle.model.specs.Sums.{sum, total}
-use Rattle.model.specs.SumLaws.{total_append}
+use Rattle.model.proofs.SumLaws.{total_append}
 use Rattle.week.specs.Days.{day_seconds, week_days, week_seconds}
 use Rattle.week.specs.DayLaws.{in_day, row_in_day}
 use Rattle.week.specs.Figures.{figure_most, WithinDays, Daily, days_upto, part_end, sums_of}

@@ -2,7 +2,7 @@
 use Rattle.std.specs.Prelude.{List, [], ◌∷◌, ◌++◌, ◌≡◌, refl, ℕ, zero, suc, ◌+◌, ◌<◌, get_or, length, take}
 use Rattle.std.proofs.Common.{append_assoc, sym, ap, ◌∙◌, arith, take-suc}
 use Rattle.model.specs.Sums.{total}
-use Rattle.model.specs.SumLaws.{total_append}
+use Rattle.model.proofs.SumLaws.{total_append}
 use Rattle.text.specs.Lines.{ascii, aligned}
 use Rattle.text.specs.Page.{Page, added}
 use Rattle.text.specs.PageLaws.{added_append}

@@ -17,15 +17,15 @@ use Rattle.request_log.specs.Conditions.{Accepted, verdict_of}
 use Rattle.request_log.specs.ConditionLaws.{after_log, after_accepted}
 use Rattle.request_log.specs.AcceptedLaws.{accepted_sound}
 use Rattle.model.specs.LogRequests.{requests_in, rates_in}
-use Rattle.model.specs.LogRequestLaws.{last_is, log_rising, log_within}
-use Rattle.model.specs.MarkingRows.{rows_realize}
+use Rattle.model.proofs.LogRequestLaws.{last_is, log_rising, log_within}
+use Rattle.model.proofs.MarkingRows.{rows_realize}
 use Rattle.model.specs.Plan.{plan, plan_rows}
-use Rattle.model.specs.PlanLaws.{plan_planned}
-use Rattle.model.specs.FlatLaws.{flat_length, upto_flat}
+use Rattle.model.proofs.PlanLaws.{plan_planned}
+use Rattle.model.proofs.FlatLaws.{flat_length, upto_flat}
 use Rattle.model.specs.RowForm.{all_fit, ordered, rows_upto}
-use Rattle.model.specs.RowLaws.{Formed, formed, fits_hold, member_all_fit, row_member}
+use Rattle.model.proofs.RowLaws.{Formed, formed, fits_hold, member_all_fit, row_member}
 use Rattle.model.specs.Sums.{total}
-use Rattle.model.specs.SumLaws.{sum_same}
+use Rattle.model.proofs.SumLaws.{sum_same}
 use Rattle.planner.specs.declared.Planned.TheVariants as plans
 use Rattle.planner.specs.Answers.{planned_rows, rows_of_plan, planned}
 use Rattle.planner.specs.RoomLaws.{Roomy, few_rows}

@@ -5,11 +5,11 @@ use Rattle.base.specs.Choice.{pick}
 use Rattle.base.specs.ChoiceLaws.{both_true}
 use Rattle.base.specs.Lists.{build}
 use Rattle.model.specs.Sums.{sum, total}
-use Rattle.model.specs.SumLaws.{sum_same, sum_zero, sum_swap, sum_total, total_append}
-use Rattle.model.specs.CountLaws.{sum_server}
+use Rattle.model.proofs.SumLaws.{sum_same, sum_zero, sum_swap, sum_total, total_append}
+use Rattle.model.proofs.CountLaws.{sum_server}
 use Rattle.model.specs.Schedule.{Row, hold, move, length_of}
 use Rattle.model.specs.RowForm.{fits, ordered, all_fit}
-use Rattle.model.specs.RowLaws.{fits_hold}
+use Rattle.model.proofs.RowLaws.{fits_hold}
 use Rattle.week.specs.Days.{day_seconds, week_days, week_seconds, cell, held_at, server_days, day_sums, line_sum}
 use Rattle.week.specs.DayLaws.{in_day, row_in_day, cell_total, cell_most}
 

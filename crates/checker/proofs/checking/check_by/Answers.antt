@@ -14,7 +14,7 @@ use Rattle.checker.specs.Answers.{checked}
 use Rattle.model.specs.Rates.{some?}
 use Rattle.checker.specs.Quick.{schedule_tests}
 use Rattle.checker.specs.AnswerLaws.{log_refused, price_refused, log_accepted, sums_fit, prices_fit}
-use Rattle.model.specs.RateLaws.{fee_most}
+use Rattle.model.proofs.RateLaws.{fee_most}
 use Rattle.checker.proofs.checking.check_by.Goals as goal
 
 pub returns-in-Refused : goal.returns-in-Refused

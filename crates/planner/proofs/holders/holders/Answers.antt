@@ -3,7 +3,7 @@ use borrow.Author.Rules.{rules}
 use mathlib.Core.Path.{◌≡◌, ◌∙◌}
 use Prim.Native.Nat.{suc, ◌-◌, min}
 use native.Mathlib.Omega.{arith}
-use Rattle.model.specs.TableLists.{at}
+use Rattle.model.proofs.TableLists.{at}
 use Rattle.request_log.specs.Sizes.{most_requests}
 use Rattle.planner.specs.Sizes.{places}
 use Rattle.planner.specs.HolderWords.{kept_word, marking}

@@ -1,7 +1,7 @@
 -- `planner::holders::holders` meets its contract: when the loop stands at i, w has the servers kept over gap i + 1, and the words of the gaps above i are in place. Assumes nothing.
 use mathlib.Core.Path.{◌≡◌}
 use Prim.Native.Nat.{suc, ◌-◌, ◌≤◌, min}
-use Rattle.model.specs.TableLists.{at}
+use Rattle.model.proofs.TableLists.{at}
 use Rattle.base.specs.Lists.{build}
 use Rattle.request_log.specs.Sizes.{most_requests}
 use Rattle.planner.specs.Sizes.{places}

@@ -8,9 +8,9 @@ use mathlib.Core.List.{List}
 use mathlib.Core.Path.{◌≡◌, refl, ap, ap₂, ◌∙◌}
 use Rattle.base.specs.Lists.{build, build_length, cleared}
 use Rattle.base.specs.LentLaws.{lent_front}
-use Rattle.model.specs.TableLists.{at}
+use Rattle.model.proofs.TableLists.{at}
 use Rattle.planner.specs.Loading.{links}
-use Rattle.model.specs.RecentLaws.{recents_zero, recents_next}
+use Rattle.model.proofs.RecentLaws.{recents_zero, recents_next}
 use Rattle.planner.specs.Terms.{index}
 use Rattle.planner.specs.LinkLaws.{links_front, links_next}
 use Rattle.planner.proofs.requests.link.Goals as goal

@@ -2,8 +2,8 @@
 use Prim.Native.Nat.{suc, ◌-◌, ◌≤◌}
 use lib.ListN.{length}
 use mathlib.Core.Path.{◌≡◌}
-use Rattle.model.specs.TableLists.{at}
-use Rattle.model.specs.RecentLaws.{recents}
+use Rattle.model.proofs.TableLists.{at}
+use Rattle.model.proofs.RecentLaws.{recents}
 use Rattle.planner.specs.Terms.{index}
 use Rattle.planner.specs.LinkLaws.{links_front}
 use Rattle.planner.proofs.requests.link.Given as goal

@@ -8,7 +8,7 @@ use lib.Seq.{drop-set-lt}
 use mathlib.Core.List.{List, ◌++◌}
 use lib.ListN.{length, set, length-set}
 use Rattle.planner.specs.FillLaws.{set_first, costs_front, keeps_front, filled_tabled, costs_more, keeps_more}
-use Rattle.model.specs.TableLists.{lists}
+use Rattle.model.proofs.TableLists.{lists}
 use Rattle.planner.specs.Asked.{asks}
 use Rattle.planner.specs.Fits.{ready_less}
 use Rattle.planner.specs.Fees.{rated}

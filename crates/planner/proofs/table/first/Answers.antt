@@ -1,7 +1,7 @@
 -- `planner::table::first` meets its contract. Assumes nothing.
 use mathlib.Core.Path.{◌≡◌}
 use native.Mathlib.Omega.{arith}
-use Rattle.model.specs.Leaving.{cheaper_most}
+use Rattle.model.proofs.Leaving.{cheaper_most}
 use Rattle.planner.specs.Fees.{rated, price_given}
 use Rattle.planner.specs.Terms.{away_of, first_price}
 use Rattle.planner.proofs.table.first.Goals as goal

@@ -3,7 +3,7 @@ use borrow.Author.Rules.{rules}
 use mathlib.Core.Path.{sym}
 use native.Mathlib.Omega.{arith}
 use Prim.Native.Nat.{suc}
-use Rattle.model.specs.TableLists.{at}
+use Rattle.model.proofs.TableLists.{at}
 use Rattle.planner.specs.Asked.{asks}
 use Rattle.planner.specs.Fits.{fits_less, ready_less, row_small}
 use Rattle.planner.specs.TermLaws.{keep_none, keep_some, from_below, terms_small}

@@ -1,8 +1,8 @@
 -- `planner::table::row` meets its contract. Assumes nothing.
 use mathlib.Core.Path.{◌≡◌, sym, ◌∙◌}
 use native.Mathlib.Omega.{arith}
-use Rattle.model.specs.TableLists.{at}
-use Rattle.model.specs.TableRows.{row_start}
+use Rattle.model.proofs.TableLists.{at}
+use Rattle.model.proofs.TableRows.{row_start}
 use Rattle.planner.specs.Asked.{asks}
 use Rattle.planner.specs.Fees.{rated}
 use Rattle.planner.specs.Fits.{row_small}

@@ -1,8 +1,8 @@
 -- `planner::table::row` meets its contract. Assumes nothing.
 use mathlib.Core.Path.{◌≡◌}
 use Prim.Native.Nat.{◌-◌, ◌≤◌}
-use Rattle.model.specs.TableLists.{at}
-use Rattle.model.specs.TableRows.{row}
+use Rattle.model.proofs.TableLists.{at}
+use Rattle.model.proofs.TableRows.{row}
 use Rattle.planner.specs.Asked.{asks}
 use Rattle.planner.specs.Fees.{rated}
 use Rattle.planner.proofs.table.row.Given as goal

@@ -6,7 +6,7 @@ use native.Mathlib.Omega.{arith}
 use Prim.Native.Nat.{ℕ, suc, ◌-◌}
 use lib.ListN.{length-set}
 use Rattle.model.specs.Table.{best}
-use Rattle.model.specs.TableLists.{at}
+use Rattle.model.proofs.TableLists.{at}
 use Rattle.planner.specs.Asked.{asks}
 use Rattle.planner.specs.Fits.{ready_less}
 use Rattle.planner.specs.Walked.{Keeps, turned}

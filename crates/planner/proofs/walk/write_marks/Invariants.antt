@@ -4,7 +4,7 @@ use mathlib.Core.Path.{◌≡◌}
 use Prim.Native.Nat.{◌≤◌}
 use lib.ListN.{length, drop}
 use Rattle.model.specs.Table.{best}
-use Rattle.model.specs.TableLists.{at}
+use Rattle.model.proofs.TableLists.{at}
 use Rattle.planner.specs.Asked.{asks}
 use Rattle.planner.specs.Walked.{walked}
 use Rattle.planner.specs.Fees.{rated}

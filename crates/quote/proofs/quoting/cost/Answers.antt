@@ -4,7 +4,7 @@ use native.Mathlib.Omega.{arith}
 use mathlib.Core.Path.{ap, ◌∙◌}
 use Prim.Native.Nat.{ℕ, ◌*◌}
 use Rattle.request_log.specs.Fields.{request_count}
-use Rattle.model.specs.LogRequestLaws.{last_is}
+use Rattle.model.proofs.LogRequestLaws.{last_is}
 use Rattle.model.specs.Quote.{quote_of}
 use Rattle.quote.specs.Most.{sum_most, hold_most}
 use Rattle.quote.proofs.quoting.cost.Goals as goal

@@ -7,7 +7,7 @@ use Rattle.request_log.specs.Conditions.{Accepted}
 use Rattle.request_log.specs.AcceptedLaws.{accepted_sound}
 use Rattle.request_log.specs.Fields.{class_of}
 use Rattle.model.specs.LogRequests.{prices_in}
-use Rattle.model.specs.LogRequestLaws.{log_priced}
+use Rattle.model.proofs.LogRequestLaws.{log_priced}
 use Rattle.quote.specs.Answers.{quoted, quote_answer}
 use Rattle.quote.proofs.quoting.quote_by.Goals as goal
 
