@@ -26,7 +26,7 @@ use Rattle.checker.specs.Answers.{check_conditions, check_verdict_of, checked as
 use Rattle.planner.specs.Answers.{letter, marks_of, planned_rows, least_costs}
 use Rattle.quote.specs.Answers.{quoted as quoted_by, quote_answer}
 use Rattle.online.specs.Servers.{across, set_of, some_server}
-use Rattle.online.specs.Rules.{window_of, copy_at, use_at, fresh, lasts, kept, uses, stands as StandsAfter, next_use, seconds, accept, running, remaining, closing}
+use Rattle.online.specs.Rules.{window_of, copy_at, use_at, fresh, lasts, kept, uses, stands as stands_after, next_use, seconds, accept, running, remaining, closing}
 use Rattle.online.specs.Conditions.{any_of, server_broken, broken, scan_conditions, close_conditions}
 use Rattle.online.specs.Answers.{start_verdict, log_start_verdict, started_by, started, started_for_log, scan_verdict, scanned_by, scanned, mark_outcome, close_verdict, closed_by, closed_answer}
 use Rattle.bounds.specs.Calls.{after as after_call, run}
@@ -119,7 +119,7 @@ upload_weeks =
 
 -- every line of the table holds
 pub weeks_right : all_right (weeks ++ (own_weeks ++ upload_weeks)) ≡ true
-unfolding weeks own_weeks upload_weeks all_right right same as_numbers answer_numbers quote_numbers quoted_by quote_answer least_own quote_of requests_in prices_in check_conditions check_verdict_of checked_by check_answer requests_given letter live_letter least_so_far plan_letters plan_numbers costs_from close_after letters_from close_cost start_of log_of build first each has put lowest distance none_nearer nearest classes prices_of outside window version class_of server_count_of home_of request_count requests_offset id_offset total_length written_sum length_for id_of header_of seconds_of servers_of sum_from sum_of setup_conditions offered_conditions header_conditions before request_conditions log_conditions verdict_of head request_bytes requests_bytes body encode sum total requests latest previous length_of is_transfer is_upload cost_of reach arrive through reached rounds standing stands numbers flat row_of row_at rows_upto rows_of fits earlier follows keeps sends loads some? or_zero rates rates_given upload_conditions legal gap begin after spans any covered holds fee own asked cost begins_run run_end hold_rows all_holds transfers uploads source rows_from rows put_mark markings first_least least_of plan plan_cost plan_rows row_count kind_fits misfits misplaced row_conditions backed copy_condition serve_condition schedule_conditions check_cost across set_of some_server window_of copy_at use_at fresh lasts kept uses StandsAfter next_use seconds accept running remaining closing any_of server_broken broken scan_conditions close_conditions start_verdict log_start_verdict started_by started started_for_log scan_verdict scanned_by scanned mark_outcome close_verdict closed_by closed_answer marks_of planned_rows least_costs after_call run digits decimal ascii line_end line list_word refusal_text heading entry_line entry_lines figure_line sheet_text entry_of scans state_after live_mark live_cost opened live_marks running_costs closing_cost columns_of sheet_of shown output
+unfolding weeks own_weeks upload_weeks all_right right same as_numbers answer_numbers quote_numbers quoted_by quote_answer least_own quote_of requests_in prices_in check_conditions check_verdict_of checked_by check_answer requests_given letter live_letter least_so_far plan_letters plan_numbers costs_from close_after letters_from close_cost start_of log_of build first each has put lowest distance none_nearer nearest classes prices_of outside window version class_of server_count_of home_of request_count requests_offset id_offset total_length written_sum length_for id_of header_of seconds_of servers_of sum_from sum_of setup_conditions offered_conditions header_conditions before request_conditions log_conditions verdict_of head request_bytes requests_bytes body encode sum total requests latest previous length_of is_transfer is_upload cost_of reach arrive through reached rounds standing stands numbers flat row_of row_at rows_upto rows_of fits earlier follows keeps sends loads some? or_zero rates rates_given upload_conditions legal gap begin after spans any covered holds fee own asked cost begins_run run_end hold_rows all_holds transfers uploads source rows_from rows put_mark markings first_least least_of plan plan_cost plan_rows row_count kind_fits misfits misplaced row_conditions backed copy_condition serve_condition schedule_conditions check_cost across set_of some_server window_of copy_at use_at fresh lasts kept uses stands_after next_use seconds accept running remaining closing any_of server_broken broken scan_conditions close_conditions start_verdict log_start_verdict started_by started started_for_log scan_verdict scanned_by scanned mark_outcome close_verdict closed_by closed_answer marks_of planned_rows least_costs after_call run digits decimal ascii line_end line list_word refusal_text heading entry_line entry_lines figure_line sheet_text entry_of scans state_after live_mark live_cost opened live_marks running_costs closing_cost columns_of sheet_of shown output
 weeks_right = refl
 
 -- the two windows that 01's 'Prices' names: of class 4 and of class 6

@@ -1,4 +1,4 @@
--- The conditions of a scan, of the running cost and of a close, in 01's order; those of a start are prices' file-conditions and log's offered-conditions (37, 38, 3, 43, 4, 5). Assumes nothing.
+-- The conditions of a scan, of the running cost and of a close, in 01's order; those of a start are prices' file_conditions and request_log's offered_conditions (37, 38, 3, 43, 4, 5). Assumes nothing.
 use Rattle.std.specs.Prelude.{Bool, false, not, List, [], ◌∷◌, ℕ, ◌+◌, leb, ltb, eqb}
 use Rattle.base.specs.Choice.{both, either}
 use Rattle.base.specs.Lists.{same}

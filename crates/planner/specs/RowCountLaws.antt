@@ -83,7 +83,7 @@ module _ (words : List ℕ) where
         sum_add n (starts c) (λ k. pick (begins_run (holder_at words c) k) 1 0),
       )
 
-  module _ (NoneFirst : get_or words 0 0 ≡ 0) where
+  module _ (none_first : get_or words 0 0 ≡ 0) where
     -- a hold begins where a server holds and did not over the gap before
     begins_words : (y k : ℕ) → 1 ≤ k → begins_run (holder_at words y) k ≡ both (has (get_or words k 0) y) (not (has (get_or words (pred k) 0) y))
     unfolding begins_run holder_at
@@ -93,7 +93,7 @@ module _ (words : List ℕ) where
             ≡ both (has (get_or words k 0) y) (not (has (get_or words (pred k) 0) y))
         go (inl h) =
             let e : k ≡ 1 = omega arith in
-            rw (e, NoneFirst, has_none y)
+            rw (e, none_first, has_none y)
         go (inr h) = rw (lt-ltb 1 k h)
 
     -- so as many begin as copies stand, less those that stood before
