@@ -7,17 +7,16 @@ use Rattle.prices.specs.Prices.{prices_of, window}
 use Rattle.prices.specs.Tariff.{Tariff, Given}
 use Rattle.request_log.specs.declared.Header.{Header}
 use Rattle.online.specs.declared.Cache.{Cache}
-use Rattle.online.specs.declared.Closed.{Closed}
 use Rattle.online.specs.declared.CloseOutcome.TheVariants as close'
 use Rattle.online.specs.Rules.{window_of, copy_at, use_at, running, remaining, closing, shut}
 use Rattle.online.specs.Answers.{close_verdict, closed_by, closed_answer}
 use Rattle.online.specs.Passed.{close_passed}
 use Rattle.online.specs.ClosingLaws.{remaining_at, remaining_most, closing_more, closing_most}
-use Rattle.bounds.specs.Calls.{Call, verdict, run, TakenClose}
+use Rattle.bounds.specs.Calls.{Call, TakenClose}
 use Rattle.bounds.proofs.CloseLaws.{close_once}
 use Rattle.bounds.specs.Claim.{Claim, prices, final}
 use Rattle.bounds.proofs.ClaimLaws.{closing_fresh}
-use Rattle.guarantees.specs.Demand3.{Ready, ready_fresh, online_within_three}
+use Rattle.guarantees.specs.Demand3.{Ready, ready_fresh}
 
 -- a close that is not refused, in any state
 pub record Closing (c : Cache) : Type 0 where
@@ -53,24 +52,6 @@ pub record ClosedWithin (t : Tariff) (s : Header) (c : Cache) (calls : List Call
   pub answers : (closed_answer (final t.table s c calls)).outcome ≡ close'.Cost (closing (final t.table s c calls))
   pub no_less : running (final t.table s c calls) ≤ closing (final t.table s c calls)
   pub no_more : closing (final t.table s c calls) ≤ 3 * claimed.least + (prices t.table s c calls).transfer
-
--- THE CLOSE AFTER A LIST OF CALLS
-pub close_within : (t : Tariff) (g : Given t) (s : Header) (c : Cache) → Ready t g s c → (calls : List Call) → close_verdict (run c calls) ≡ Passed
-    → ClosedWithin t s c calls
-close_within t g s c r calls f =
-    let claim = online_within_three t g s c r calls in
-    record {
-      claimed = claim;
-      answers = ap (λ (a : Closed). a.outcome) (close_answers (run c calls) f).answers;
-      no_less = claim.closing_no_less;
-      no_more = claim.closing_no_more;
-    }
-
--- EVERY CLOSE IN A LIST OF CALLS that is not refused is so bounded by the requests taken before it
-pub closes_within : (t : Tariff) (g : Given t) (s : Header) (c : Cache) → Ready t g s c → (calls : List Call) (x : TakenClose c calls)
-    → ClosedWithin t s c x.before
-unfolding verdict
-closes_within t g s c r calls x = close_within t g s c r x.before x.passed
 
 -- and there is at most one, from any state
 pub closes_once : (c : Cache) (calls : List Call) (x y : TakenClose c calls) → x.before ≡ y.before

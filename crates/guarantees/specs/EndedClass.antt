@@ -6,18 +6,16 @@ use Rattle.std.proofs.Math.Option as option
 use Rattle.base.specs.Choice.{not_both, true_or_false}
 use Rattle.base.specs.Refusals.{Never}
 use Rattle.base.specs.declared.Verdict.TheVariants.{Refused}
-use Rattle.prices.specs.Prices.{priced, classes, prices_of}
-use Rattle.prices.specs.PriceLaws.{given_priced, judged_never}
+use Rattle.prices.specs.Prices.{priced, classes}
+use Rattle.prices.specs.PriceLaws.{judged_never}
 use Rattle.prices.specs.Tariff.{Tariff, built_in, price_file, Given, none, file}
 use Rattle.prices.specs.Offer.{built_in_offer, file_offer, offer_of}
 use Rattle.prices.specs.Uploads.{Taken}
 use Rattle.request_log.specs.declared.Setup.{Setup}
-use Rattle.request_log.specs.Fields.{class_of, setup_of, header_of, request_count}
+use Rattle.request_log.specs.Fields.{setup_of, header_of, request_count}
 use Rattle.request_log.specs.Conditions.{no_longer_sold, verdict_of, Accepted}
 use Rattle.request_log.specs.Contents.{Contents, decode}
 use Rattle.request_log.specs.Answers.{write_verdict}
-use Rattle.request_log.specs.Ranges.{Sound}
-use Rattle.request_log.specs.AcceptedLaws.{sound_accepted}
 use Rattle.request_log.specs.EndedLaws.{write_refused, write_never, log_never}
 use Rattle.model.specs.LogRequests.{prices_in}
 use Rattle.online.specs.Answers.{start_verdict, log_start_verdict}
@@ -25,13 +23,12 @@ use Rattle.online.specs.Passed.{start_refused, start_never, log_start_never}
 use Rattle.bounds.specs.Calls.{Call}
 use Rattle.bounds.specs.Claim.{Claim}
 use Rattle.live.specs.Live.{opened}
-use Rattle.live.specs.LiveLaws.{starts}
 use Rattle.planner.specs.Answers.{least_costs}
-use Rattle.guarantees.specs.Quotes.{WithinTwice, whole_within}
-use Rattle.guarantees.specs.Demand3.{PlannedBest, planned_best, Ready, for_log, online_within_three}
+use Rattle.guarantees.specs.Quotes.{WithinTwice}
+use Rattle.guarantees.specs.Demand3.{PlannedBest, Ready}
 
 -- eight classes are built in
-seven : 7 < length classes
+pub seven : 7 < length classes
 unfolding classes
 seven = omega arith
 
@@ -99,20 +96,3 @@ pub record OldLog (log : List ℕ) : Type 0 where
   -- no other is started, and it is not written again
   pub unstarted : start_verdict built_in_offer (setup_of log) ≡ Refused no_longer_sold
   pub unwritten : (room : ℕ) → write_verdict built_in_offer (decode log) room ≡ Refused no_longer_sold
-
--- OLD LOGS: every log of class 7 that is as the format says
-pub old_log : (log : List ℕ) → Sound log → class_of log ≡ 7 → OldLog log
-unfolding prices_in prices_of classes opened decode header_of
-old_log log sound e =
-    let a : Accepted built_in log = sound_accepted built_in log refl (rw e seven) sound in
-    let ready : Ready built_in none (header_of log) (opened built_in log) = for_log (starts built_in (given_priced built_in none) log a) in
-    record {
-      accepted = a;
-      prices_are = rw e;
-      planned = λ u taken k h. planned_best built_in u taken log k a h;
-      quoted = whole_within built_in log a;
-      started = ready;
-      within = λ calls. online_within_three built_in none (header_of log) (opened built_in log) ready calls;
-      unstarted = (started_43 (setup_of log)).1 e;
-      unwritten = λ room. (written_43 (decode log) room).1 e;
-    }

@@ -30,8 +30,8 @@ use Rattle.bounds.specs.Claim.{Claim}
 use Rattle.report.specs.Sheet.{sheet_verdict}
 use Rattle.report.specs.Output.{output, price_limit}
 use Rattle.report.specs.OutputLaws.{enough, enough_prices}
-use Rattle.guarantees.specs.Demand3.{PlannedBest, planned_best, Ready, online_within_three}
-use Rattle.guarantees.specs.Closes.{ClosedWithin, closes_within}
+use Rattle.guarantees.specs.Demand3.{PlannedBest, Ready}
+use Rattle.guarantees.specs.Closes.{ClosedWithin}
 
 -- THE FILES THAT LOAD: count 1 to 256, offset 4, length to the count, every price from 1 to 1,000,000
 pub file_loads : (file : List ℕ) → ((price_file file).judged ≡ Passed) ↔ Loads file
@@ -94,7 +94,3 @@ pub record Demand3 (t : Tariff) (g : Given t) : Type 0 where
   pub online : (s : Header) (c : Cache) → Ready t g s c → (calls : List Call) → Claim t.table s c calls
   -- every close among them that is not refused
   pub closes : (s : Header) (c : Cache) → Ready t g s c → (calls : List Call) (x : TakenClose c calls) → ClosedWithin t s c x.before
-
--- DEMAND 3 FOR EVERY TABLE: with any price file, and without one
-pub demand_3 : (t : Tariff) (g : Given t) → Demand3 t g
-demand_3 t g = record { planner = planned_best t; online = online_within_three t g; closes = closes_within t g }

@@ -1,32 +1,25 @@
 -- A quote within twice (02's Req 07): who is quoted and who is refused, and for every table that loads and every accepted log, cut or whole: neither part of
 -- the quote exceeds the least cost, and the quote lies between it and its double.
-use Rattle.std.specs.Prelude.{List, ◌++◌, ◌↔◌, ◌≡◌, refl, ℕ, suc, ◌*◌, ◌≤◌, get_or}
+use Rattle.std.specs.Prelude.{List, ◌++◌, ◌↔◌, ◌≡◌, refl, ℕ, ◌*◌, ◌≤◌}
 use Rattle.std.proofs.Math.Option.{none}
-use Rattle.std.proofs.Common.{sym, ap, ◌∙◌, arith}
+use Rattle.std.proofs.Common.{arith}
 use Rattle.base.specs.declared.Refusal.{Refusal}
 use Rattle.base.specs.declared.Verdict.{Verdict}
 use Rattle.base.specs.declared.Verdict.TheVariants.{Passed, Refused}
 use Rattle.base.specs.Refusals.{First}
-use Rattle.base.specs.Lists.{build_at}
 use Rattle.prices.specs.Tariff.{Tariff, Given, conditions_of}
 use Rattle.request_log.specs.Fields.{request_count, server_count_of}
 use Rattle.request_log.specs.Conditions.{Accepted, verdict_of, log_conditions}
-use Rattle.request_log.specs.Contents.{cut}
-use Rattle.request_log.specs.Cutting.{cut_count}
 use Rattle.model.specs.Requests.{requests}
 use Rattle.model.specs.Sums.{sum}
 use Rattle.model.specs.LogRequests.{requests_in, prices_in, rates_in}
 use Rattle.model.proofs.LogRequestLaws.{log_rising, log_within}
 use Rattle.model.specs.Least.{Least}
-use Rattle.model.specs.Plan.{plan_cost}
-use Rattle.model.proofs.PlanLeast.{plan_least}
 use Rattle.model.specs.Quote.{sum_part, hold_part, quote_of}
 use Rattle.model.proofs.QuoteLaws.{sum_below, hold_below, quote_above}
-use Rattle.planner.specs.Answers.{least_costs}
 use Rattle.quote.specs.declared.Quoted.TheVariants as answer
 use Rattle.quote.specs.Answers.{quote_in, quoted, quote_answer}
 use Rattle.guarantees.specs.Calls.{quote_decided}
-use Rattle.guarantees.specs.Demand3.{planned_best}
 
 -- a quote is answered where the verdict passed, a refusal where it is refused
 cost_passed : (v : Verdict) (q c : ℕ) → quoted v q ≡ answer.Cost c → (v ≡ Passed) × (c ≡ q)
@@ -89,23 +82,3 @@ within_twice t log a least l =
       least_most = quote_above p (server_count_of log) q n least (log_rising t log a) (log_within t log a) l;
       quote_most = omega (arith, s, h);
     }
-
--- there is such a cost: the plan's
-planned_least : (t : Tariff) (log : List ℕ) → Accepted t log
-    → Least (rates_in t none log) (server_count_of log) (requests_in log) (request_count log) (plan_cost (rates_in t none log) (requests_in log) (request_count log))
-planned_least t log a = plan_least _ _ _ _ (log_rising t log a) (log_within t log a)
-
--- THE WHOLE LOG, beside the last cost that the planner's `least` gives for it
-pub whole_within : (t : Tariff) (log : List ℕ) → Accepted t log → WithinTwice t log (get_or (least_costs t none log) (request_count log) 0)
-unfolding least_costs
-whole_within t log a =
-    let n = request_count log in
-    within_twice t log a _
-    (rw (build_at (suc n) (λ k. plan_cost (rates_in t none log) (requests_in log) k) n 0 (omega arith)) (planned_least t log a))
-
--- THE LOG CUT to its first k requests, beside the cost that `least` gives for so many
-pub cut_within : (t : Tariff) (log : List ℕ) (k : ℕ) → Accepted t log → k ≤ request_count log → WithinTwice t (cut k log) (get_or (least_costs t none log) k 0)
-cut_within t log k a h =
-    let b = planned_best t none tt log k a h in
-    within_twice t (cut k log) b.accepted _
-    (rw (b.least_is ∙ ap (plan_cost (rates_in t none (cut k log)) (requests_in (cut k log))) (sym (cut_count t log k a h))) (planned_least t (cut k log) b.accepted))

@@ -18,11 +18,8 @@ use Rattle.model.specs.Marking.{Mark, S, holds, source, rows_from, rows, Good}
 use Rattle.model.specs.Plan.{plan, plan_cost, plan_rows}
 use Rattle.model.specs.LogRequests.{requests_in, rates_in}
 use Rattle.model.proofs.LogRequestLaws.{log_rising, log_within}
-use Rattle.model.proofs.HolderLaws.{holder_below}
-use Rattle.model.proofs.MarkLaws.{sends_S}
-use Rattle.model.proofs.RowMembers.{Made, as_hold, as_transfer, as_upload, rows_row, transfer_in}
 use Rattle.model.proofs.RowsCost.{rows_as_many}
-use Rattle.model.proofs.MarkingRows.{rows_from_realize, source_nearest}
+use Rattle.model.proofs.MarkingRows.{rows_from_realize}
 use Rattle.model.proofs.PlanLaws.{plan_planned}
 use Rattle.checker.specs.declared.Checked.TheVariants as answer
 use Rattle.checker.specs.Answers.{check_answer}
@@ -55,44 +52,6 @@ pub record Sourced (p : Rates) (count : ℕ) (q : Requests) (n : ℕ) : Type 0 w
   pub each : (y x τ : ℕ) → Memᴰ (move (transfer y x τ)) (plan_rows p q count n) → Serves p q n y x τ
   pub every_s : (i : ℕ) → 1 ≤ i → i ≤ n → plan p q n i ≡ S
       → (y : ℕ) × NearestHolder q (plan p q n) n i y × Memᴰ (move (transfer y (q.server i) (q.time i))) (plan_rows p q count n)
-
-module _ (p : Rates) (count : ℕ) (q : Requests) (n : ℕ) (within : Within count q n) where
-  from : ℕ → ℕ
-  from = source q count (plan p q n) n
-
-  near : (i : ℕ) → 1 ≤ i → i ≤ n → plan p q n i ≡ S → NearestHolder q (plan p q n) n i (from i)
-  unfolding from
-  near i a b e =
-      let N = source_nearest q count (plan p q n) n within i a b e in
-      let below = holder_below q (plan p q n) n count within i a b in
-      record { there = N.passes; none_nearer = λ z h. N.least z (below z h) h; lower = λ z h. N.lower z (below z h) h }
-
-  pub sourced : Sourced p count q n
-  unfolding plan_rows rows from
-  sourced = record { each = each; every_s = λ i a b e. (from i, near i a b e, transfer_in q (plan p q n) n from count i a b e) }
-    where
-      each : (y x τ : ℕ) → Memᴰ (move (transfer y x τ)) (plan_rows p q count n) → Serves p q n y x τ
-      each y x τ r = go (rows_row q (plan p q n) n from count r)
-        where
-          go : Made q (plan p q n) n from count (move (transfer y x τ)) → Serves p q n y x τ
-          go (as_hold h) = absurd (let z : ◌≡◌ {A = ℕ} 0 1 = cc h.is in omega arith)
-          go (as_upload h) = absurd (let z : ◌≡◌ {A = ℕ} 0 1 = cc h.is in omega arith)
-          go (as_transfer s) =
-              let e = sends_S (plan p q n s.request) s.passes in
-              let source_is : y ≡ from s.request = cc s.is in
-              record {
-                request = s.request;
-                first = s.first;
-                upto = s.upto;
-                sent = e;
-                target = cc s.is;
-                second = cc s.is;
-                nearest = rw source_is (near s.request s.first s.upto e);
-              }
-
--- for every accepted log, and so for a cut one
-pub log_sourced : (t : Tariff) (u : Option ℕ) (log : List ℕ) → Accepted t log → Sourced (rates_in t u log) (server_count_of log) (requests_in log) (request_count log)
-log_sourced t u log a = sourced (rates_in t u log) (server_count_of log) (requests_in log) (request_count log) (log_within t log a)
 
 -- the plan's rows with other holders as sources: as many, well formed, feasible, of the plan's cost
 pub record AnyHolder (p : Rates) (count : ℕ) (q : Requests) (n : ℕ) (from : ℕ → ℕ) : Type 0 where

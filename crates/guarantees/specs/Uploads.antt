@@ -1,10 +1,10 @@
 -- Uploads from the ticket office (02's Req 11). What Optimality, Sources, CheckerAccepts, Calls and the planner's half of Demand3 say, they say for every
 -- upload price and for none. Here: with none all is as 01 has it; which uploads a plan has; an upload price makes no plan dearer; and who is refused
 -- with 44.
-use Rattle.std.specs.Prelude.{true, false, ◌≢◌, ◌≡◌, ℕ, ◌+◌, ◌*◌, ◌≤◌, ◌<◌, get_or}
+use Rattle.std.specs.Prelude.{true, false, ◌≢◌, ◌≡◌, ℕ, ◌+◌, ◌*◌, ◌≤◌, ◌<◌}
 use mathlib.Core.List.{List, [], Memᴰ}
-use Rattle.std.proofs.Common.{inl, inr, ap, ◌∙◌, arith}
-use Rattle.std.proofs.Math.Option.{none, some}
+use Rattle.std.proofs.Common.{inl, inr, ◌∙◌, arith}
+use Rattle.std.proofs.Math.Option.{some}
 use Rattle.std.proofs.Math.Path.{refl}
 use Rattle.base.specs.declared.Verdict.{Verdict}
 use Rattle.base.specs.declared.Verdict.TheVariants.{Refused}
@@ -16,27 +16,20 @@ use Rattle.prices.specs.Prices.{price_outside}
 use Rattle.prices.specs.Tariff.{Tariff}
 use Rattle.prices.specs.Uploads.{upload_conditions, Taken}
 use Rattle.prices.specs.UploadLaws.{taken_iff}
-use Rattle.request_log.specs.Fields.{request_count, server_count_of}
 use Rattle.request_log.specs.Conditions.{Accepted}
-use Rattle.request_log.specs.Contents.{cut}
-use Rattle.request_log.specs.Cutting.{cut_count}
 use Rattle.model.specs.Rates.{Rates, rates, plain, some?, or_zero, offers}
 use Rattle.model.specs.Sums.{total}
-use Rattle.model.specs.Requests.{Requests, Rising, Within}
-use Rattle.model.specs.Schedule.{Row, move, upload, Feasible, length_of, is_transfer, is_upload, cost_of}
-use Rattle.model.proofs.RateLaws.{no_upload, no_uploads}
+use Rattle.model.specs.Requests.{Requests}
+use Rattle.model.specs.Schedule.{Row, move, upload, Feasible, length_of, is_transfer, cost_of}
+use Rattle.model.proofs.RateLaws.{no_upload}
 use Rattle.model.specs.Marking.{Mark, K, S, U, legal, Valid, cost, source, rows}
 use Rattle.model.proofs.MarkLaws.{loads_U}
 use Rattle.model.proofs.RowMembers.{Made, as_hold, as_transfer, as_upload, rows_row, upload_in}
-use Rattle.model.specs.Plan.{plan, plan_cost, plan_rows, rank, Before}
+use Rattle.model.specs.Plan.{plan, plan_rows, rank, Before}
 use Rattle.model.proofs.PlanLaws.{plan_planned}
-use Rattle.model.specs.LogRequests.{requests_in, prices_in}
-use Rattle.model.proofs.LogRequestLaws.{log_rising, log_within}
 use Rattle.checker.specs.Answers.{check_conditions, check_verdict_of}
-use Rattle.planner.specs.Answers.{plan_verdict, least_costs, least_verdict}
+use Rattle.planner.specs.Answers.{plan_verdict, least_verdict}
 use Rattle.request_log.specs.ConditionLaws.{after_accepted}
-use Rattle.guarantees.specs.Optimality.{optimal}
-use Rattle.guarantees.specs.Demand3.{planned_best}
 
 -- ---- without an upload price
 
@@ -54,7 +47,7 @@ pub record WithoutUploads (p : Prices) (q : Requests) (n : ℕ) : Type 0 where
 
 module _ (p : Prices) (q : Requests) (n : ℕ) where
   -- uploads are not offered
-  not_offered : offers (plain p) ≡ false
+  pub not_offered : offers (plain p) ≡ false
   unfolding rates some?
   not_offered = refl
 
@@ -115,40 +108,6 @@ uploaded p count q n = record { each = λ x τ r. go (rows_row q m n from count 
     go (as_transfer h) = absurd (let z : ◌≡◌ {A = ℕ} 0 1 = cc h.is in omega arith)
     go (as_upload h) =
         record { request = h.request; first = h.first; upto = h.upto; marked = loads_U (m h.request) h.passes; target = cc h.is; second = cc h.is }
-
--- AN UPLOAD PRICE MAKES NO PLAN DEARER
-pub no_dearer : (p : Prices) (y count : ℕ) (q : Requests) (n : ℕ) → Rising q n → Within count q n
-    → plan_cost (rates p (some y)) q n ≤ plan_cost (plain p) q n
-unfolding cost_of rates or_zero is_upload
-no_dearer p y count q n rising within =
-    let o = optimal (plain p) count q n rising within in
-    let rows = plan_rows (plain p) q count n in
-    omega (
-      arith,
-      o.costs,
-      ap (λ (x : ℕ). y * x) (no_uploads (plain p) q n rows o.feasible (not_offered p q n) is_upload (λ x a b. refl) (λ z x τ. refl)),
-      (optimal (rates p (some y)) count q n rising within).none_less rows (still o.feasible),
-    )
-  where
-    still : {rows : List Row} → Feasible (plain p) q n rows → Feasible (rates p (some y)) q n rows
-    still {rows} F =
-        record { begins = F.begins; leaves = F.leaves; serves = F.serves; offered = λ x τ m. absurd (no_upload (plain p) q n rows F (not_offered p q n) x τ m) }
-
--- so for every accepted log, after each of its requests
-pub least_no_dearer : (t : Tariff) (y : ℕ) → Taken (some y) → (log : List ℕ) (k : ℕ) → Accepted t log → k ≤ request_count log
-    → get_or (least_costs t (some y) log) k 0 ≤ get_or (least_costs t none log) k 0
-least_no_dearer t y taken log k a h =
-    let part = cut k log in
-    let with_uploads = planned_best t (some y) taken log k a h in
-    let without = planned_best t none tt log k a h in
-    omega (
-      arith,
-      with_uploads.least_is,
-      without.least_is,
-      no_dearer (prices_in t part) y (server_count_of part) (requests_in part) k
-          (rw (cut_count t log k a h) at (log_rising t part without.accepted))
-          (rw (cut_count t log k a h) at (log_within t part without.accepted)),
-    )
 
 -- ---- 44
 

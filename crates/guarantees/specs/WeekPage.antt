@@ -6,7 +6,6 @@ use Rattle.std.proofs.Common.{inl, inr, sym, ap, ◌∙◌, arith, lt-ltb, le-lt
 use Rattle.std.proofs.Math.Option.{none}
 use Rattle.base.specs.Choice.{pick, both, le_or_lt, true_or_false, not_both}
 use Rattle.base.specs.ChoiceLaws.{both_true, either_true}
-use Rattle.base.specs.Lists.{build_at}
 use Rattle.base.specs.Refusals.{first}
 use Rattle.base.specs.declared.Verdict.TheVariants.{Passed, Refused}
 use Rattle.prices.specs.Tariff.{Tariff}
@@ -15,21 +14,15 @@ use Rattle.request_log.specs.Fields.{server_count_of, request_count}
 use Rattle.request_log.specs.Conditions.{Accepted, before}
 use Rattle.request_log.specs.ConditionLaws.{after_accepted}
 use Rattle.model.specs.LogRequests.{requests_in, prices_in, rates_in}
-use Rattle.model.proofs.LogRequestLaws.{log_rising, log_within}
-use Rattle.model.specs.Plan.{plan_cost, plan_rows}
-use Rattle.model.specs.Rates.{rates, or_zero}
-use Rattle.model.specs.Schedule.{Row, hold, move, length_of, is_transfer, cost_of}
+use Rattle.model.specs.Plan.{plan_cost}
+use Rattle.model.specs.Schedule.{Row, hold, move, length_of, is_transfer}
 use Rattle.model.specs.Sums.{sum, total}
 use Rattle.model.proofs.SumLaws.{sum_zero}
 use Rattle.planner.specs.Answers.{planned_rows}
 use Rattle.week.specs.Days.{day_seconds, week_days, week_seconds, holds_over, held_over, cell, server_days, day_sums, line_sum, held_at}
-use Rattle.week.specs.DayLaws.{cell_most}
-use Rattle.week.specs.OutputLaws.{week_accepted, week_timely, page_enough}
-use Rattle.week.specs.PageLaws.{plan_formed, plan_fits, plan_ordered, few_servers}
-use Rattle.week.specs.PageLength.{page_length}
+use Rattle.week.specs.OutputLaws.{page_enough}
+use Rattle.week.specs.PageLaws.{plan_formed}
 use Rattle.week.specs.Pages.{page_of, last_second, after_week, week_verdict, page_output}
-use Rattle.week.specs.WeekSums.{server_cells, server_sum, corner_servers, corner_held, server_sum_most, day_most, corner_most}
-use Rattle.guarantees.specs.Optimality.{optimal}
 
 -- a row that holds over a second is such a hold
 over : (y τ : ℕ) (r : Row) → holds_over y τ r ≡ true → (a : ℕ) × (b : ℕ) × (hold y a b ≡ r) × (a < τ) × (τ ≤ b)
@@ -80,32 +73,6 @@ pub record PageRight (t : Tariff) (log : List ℕ) : Type 0 where
   pub corner_width : line_sum (day_sums (planned_rows t none log) (server_count_of log)) < 10 ^ 9
   -- so each line has 68 bytes, and there is one for each server and one for the sums
   pub long : length (page_of t log) ≡ 68 * suc (server_count_of log)
-
--- THE WEEK PAGE: of every log that is accepted and has no request after the week
-pub page_right : (t : Tariff) (log : List ℕ) → week_verdict t log ≡ Passed → PageRight t log
-unfolding page_of planned_rows plan_rows day_sums cost_of or_zero rates
-page_right t log e =
-    let a = week_accepted t log e in
-    let rows = planned_rows t none log in
-    let count = server_count_of log in
-    let few = few_servers t log a in
-    let week = week_timely t log e in
-    let p = rates_in t none log in
-    let corner = corner_held count (last_second log) rows (plan_fits t log a) (plan_ordered t log a) week in
-    record {
-      corner = corner;
-      down = corner_servers rows count;
-      held = server_sum count (last_second log) rows (plan_fits t log a) (plan_ordered t log a) week;
-      across = server_cells rows;
-      columns = λ d h. build_at week_days (λ d. sum count (λ i. cell rows (pred i) d)) d 0 h;
-      bill = rw corner (omega (arith, (optimal p count (requests_in log) (request_count log) (log_rising t log a) (log_within t log a)).costs));
-      server_width = λ y h. omega (arith, few);
-      cell_width = λ y d. omega (arith, cell_most rows y d);
-      day_width = λ d. omega (arith, day_most rows count d, few);
-      sum_width = λ y. omega (arith, server_sum_most rows y);
-      corner_width = omega (arith, corner_most rows count, few);
-      long = page_length rows count few;
-    }
 
 -- 36 exactly where an accepted log's last request is after second 604,800
 pub late : (t : Tariff) (log : List ℕ) → Accepted t log → (week_verdict t log ≡ Refused (record { number = 36; place = 0 })) ↔ (week_seconds < last_second log)
