@@ -2,9 +2,7 @@
 use Rattle.std.specs.Prelude.{List, ◌++◌, ◌≡◌, ℕ, zero, suc, ◌^◌, ◌≤◌, ◌<◌}
 use Rattle.std.proofs.Math.Option.{Option}
 use Rattle.std.proofs.Common.{sym, ap, ◌∙◌, mul-le-mul, arith}
-use Rattle.base.specs.declared.Refusal.{Refusal}
-use Rattle.base.specs.declared.Verdict.{Verdict}
-use Rattle.base.specs.declared.Verdict.TheVariants.{Passed, Refused}
+use Rattle.base.specs.declared.Verdict.TheVariants.{Passed}
 use Rattle.base.specs.Refusals.{first, otherwise}
 use Rattle.base.specs.RefusalLaws.{first_append}
 use Rattle.prices.specs.Tariff.{Tariff}
@@ -22,11 +20,10 @@ use Rattle.model.specs.LogRequests.{requests_in, prices_in, rates_in}
 use Rattle.model.proofs.LogRequestLaws.{log_priced}
 use Rattle.model.specs.Schedule.{length_of, is_transfer, is_upload}
 use Rattle.model.specs.RowForm.{rows_of}
-use Rattle.model.specs.Checking.{schedule_conditions, check_cost}
+use Rattle.model.specs.Checking.{schedule_conditions}
 use Rattle.model.proofs.CheckingLaws.{accepts_iff}
 use Rattle.model.proofs.CostBound.{hold_seconds, transfer_count, upload_count}
-use Rattle.checker.specs.declared.Checked.TheVariants as answer
-use Rattle.checker.specs.Answers.{check_conditions, check_verdict_of, checked, check_answer}
+use Rattle.checker.specs.Answers.{check_conditions, check_verdict_of}
 use Rattle.checker.specs.Quick.{schedule_tests}
 use Rattle.checker.specs.QuickTests.{same_verdict}
 
@@ -39,23 +36,6 @@ unfolding check_verdict_of check_conditions
 verdict_parts t u log ns =
     let own = schedule_conditions (rates_in t u log) (server_count_of log) (requests_in log) (request_count log) ns in
     after_log t log (upload_conditions u ++ own) ∙ ap (otherwise (verdict_of t log)) (first_append (upload_conditions u) own)
-
--- a refused log
-pub log_refused : (t : Tariff) (u : Option ℕ) (log ns : List ℕ) (r : Refusal) → verdict_of t log ≡ Refused r → check_answer t u log ns ≡ answer.Refused r
-unfolding check_answer checked
-log_refused t u log ns r e = rw (verdict_parts t u log ns, e)
-
--- an accepted log, a refused upload price
-pub price_refused : (t : Tariff) (u : Option ℕ) (log ns : List ℕ) (r : Refusal) → verdict_of t log ≡ Passed → first (upload_conditions u) ≡ Refused r
-    → check_answer t u log ns ≡ answer.Refused r
-unfolding check_answer checked
-price_refused t u log ns r a e = rw (verdict_parts t u log ns, a, e)
-
--- both accepted: what the code's conditions give
-pub log_accepted : (t : Tariff) (u : Option ℕ) (log ns : List ℕ) (v : Verdict) → verdict_of t log ≡ Passed → first (upload_conditions u) ≡ Passed
-    → first (schedule_tests (some? u) log ns) ≡ v → check_answer t u log ns ≡ checked v (check_cost (rates_in t u log) ns)
-unfolding check_answer Accepted rates
-log_accepted t u log ns v a p e = rw (verdict_parts t u log ns, a, p, ← same_verdict log ns (accepted_sound t log a) (rates_in t u log), e)
 
 -- ---- bounds
 

@@ -22,4 +22,3 @@ pub mod QuickParts
 pub mod QuickTests
 pub mod CostLaws
 pub mod AnswerLaws
-pub mod Accepts

@@ -19,7 +19,7 @@ use Rattle.model.proofs.FlatLaws.{flat_rows_of}
 use Rattle.model.proofs.CheckingLaws.{flat_scheduled, flat_cost, unbacked, unserved}
 use Rattle.checker.specs.declared.Checked.TheVariants as answer
 use Rattle.checker.specs.Answers.{check_answer, Answered}
-use Rattle.checker.specs.Accepts.{answers_cost}
+use Rattle.checker.proofs.Accepts.{answers_cost}
 
 -- it answers a cost if and only if the log is accepted, the upload price, if one is given, is in range, the numbers are rows that are well formed and
 -- feasible for the log, and that is their cost

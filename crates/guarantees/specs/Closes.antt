@@ -11,7 +11,8 @@ use Rattle.online.specs.declared.CloseOutcome.TheVariants as close'
 use Rattle.online.specs.Rules.{window_of, copy_at, use_at, running, remaining, closing, shut}
 use Rattle.online.specs.Answers.{close_verdict, closed_by, closed_answer}
 use Rattle.online.specs.Passed.{close_passed}
-use Rattle.online.specs.ClosingLaws.{remaining_at, remaining_most, closing_more, closing_most}
+use Rattle.online.specs.ClosingLaws.{remaining_at, closing_more}
+use Rattle.online.proofs.ClosingLaws.{remaining_most, closing_most}
 use Rattle.bounds.specs.Calls.{Call, TakenClose}
 use Rattle.bounds.proofs.CloseLaws.{close_once}
 use Rattle.bounds.specs.Claim.{Claim, prices, final}

@@ -19,7 +19,7 @@ use Rattle.planner.specs.Fits.{best_small}
 use Rattle.planner.specs.LoadedLaws.{log_fits}
 use Rattle.planner.specs.RoomLaws.{few_rows}
 use Rattle.online.specs.Widths.{running_fits}
-use Rattle.online.specs.ClosingLaws.{closing_fits}
+use Rattle.online.proofs.ClosingLaws.{closing_fits}
 use Rattle.report.specs.declared.Entry.{Entry}
 use Rattle.live.specs.Live.{live_cost, opened, running_costs, closing_cost}
 use Rattle.live.specs.LiveLaws.{intact_after}

@@ -14,6 +14,5 @@ pub mod EncodeLaws
 pub mod RoundTrip
 pub mod Cutting
 pub mod HeadLaws
-pub mod LongInput
 pub mod AnswerLaws
 pub mod EndedLaws

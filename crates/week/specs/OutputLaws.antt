@@ -12,7 +12,7 @@ use Rattle.prices.specs.Tariff.{Tariff}
 use Rattle.request_log.specs.Sizes.{log_limit}
 use Rattle.request_log.specs.Conditions.{Accepted, log_conditions, verdict_of}
 use Rattle.request_log.specs.ConditionLaws.{after_log}
-use Rattle.request_log.specs.LongInput as inputs
+use Rattle.request_log.proofs.LongInput as inputs
 use Rattle.text.specs.declared.Printed.TheVariants as print
 use Rattle.text.specs.Answers.{room_verdict, printed}
 use Rattle.text.specs.PrintedLaws.{printed_shown, refused_shown}

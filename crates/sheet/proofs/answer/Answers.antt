@@ -1,6 +1,6 @@
 use Rattle.std.proofs.Common.{sym, ◌∙◌, arith, length-take-le}
 use Rattle.prices.specs.PriceLaws.{file_priced}
-use Rattle.text.specs.AnswerLaws.{front_of}
+use Rattle.text.proofs.AnswerLaws.{front_of}
 use Rattle.report.specs.OutputLaws.{sheet_stands, sheet_refuses}
 use Rattle.sheet.proofs.answer.Goals as goal
 

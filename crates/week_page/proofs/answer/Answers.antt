@@ -1,5 +1,5 @@
 use Rattle.std.proofs.Common.{sym, ◌∙◌, arith, length-take-le}
-use Rattle.text.specs.AnswerLaws.{front_of}
+use Rattle.text.proofs.AnswerLaws.{front_of}
 use Rattle.week.specs.OutputLaws.{page_stands, page_refuses}
 use Rattle.week_page.proofs.answer.Goals as goal
 

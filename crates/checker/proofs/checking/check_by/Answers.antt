@@ -13,7 +13,8 @@ use Rattle.rows.specs.GivenLaws.{given_some}
 use Rattle.checker.specs.Answers.{checked}
 use Rattle.model.specs.Rates.{some?}
 use Rattle.checker.specs.Quick.{schedule_tests}
-use Rattle.checker.specs.AnswerLaws.{log_refused, price_refused, log_accepted, sums_fit, prices_fit}
+use Rattle.checker.specs.AnswerLaws.{sums_fit, prices_fit}
+use Rattle.checker.proofs.AnswerLaws.{log_refused, price_refused, log_accepted}
 use Rattle.model.proofs.RateLaws.{fee_most}
 use Rattle.checker.proofs.checking.check_by.Goals as goal
 

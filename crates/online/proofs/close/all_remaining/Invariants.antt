@@ -8,7 +8,8 @@ use Rattle.base.specs.SetLaws.{members_cut}
 use Rattle.online.specs.Servers.{across}
 use Rattle.online.specs.Rules.{window_of, copy_at, use_at, remaining}
 use Rattle.online.specs.Walk.{given, sum_first, sum_next, sum_last, sum_most}
-use Rattle.online.specs.ClosingLaws.{window_most, remaining_none, remaining_most}
+use Rattle.online.specs.ClosingLaws.{window_most, remaining_none}
+use Rattle.online.proofs.ClosingLaws.{remaining_most}
 use Rattle.online.proofs.close.all_remaining.Given as goal
 
 abbrev pub invariant-loop-left : goal.invariant-loop-left

@@ -4,7 +4,7 @@ use mathlib.Core.Path.{ap₂}
 use native.Mathlib.Omega.{arith}
 use Prim.Native.Nat.{ℕ, ◌*◌}
 use Rattle.online.specs.Rules.{closing}
-use Rattle.online.specs.ClosingLaws.{closing_fits}
+use Rattle.online.proofs.ClosingLaws.{closing_fits}
 use Rattle.online.proofs.close.closing_cost.Goals as goal
 
 pub running_cost-requires : goal.running_cost-requires

@@ -3,7 +3,7 @@ use Rattle.report.specs.TextLaws.{sheet_parts, sheet_length}
 use Rattle.report.specs.Text.{columns, entry_of, sheet_text}
 use Rattle.text.specs.Lines.{ascii}
 use Rattle.text.specs.Page.{page, added}
-use Rattle.text.specs.AnswerLaws.{front_of}
+use Rattle.text.proofs.AnswerLaws.{front_of}
 use native.Mathlib.Omega.{arith}
 use mathlib.Core.Path.{◌≡◌, ◌∙◌}
 use Rattle.report.proofs.lines.put_lines.Goals as goal

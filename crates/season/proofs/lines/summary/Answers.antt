@@ -2,7 +2,7 @@
 use mathlib.Core.Path.{sym}
 use native.Mathlib.Omega.{arith}
 use lib.Seq.{length-take-le}
-use Rattle.text.specs.AnswerLaws.{front_of}
+use Rattle.text.proofs.AnswerLaws.{front_of}
 use Rattle.season.proofs.lines.summary.Goals as goal
 
 pub slice_bounds-page-end : goal.slice_bounds-page-end

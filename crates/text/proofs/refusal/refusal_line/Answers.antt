@@ -1,7 +1,7 @@
 -- `text::refusal::refusal_line` meets its contract. Assumes nothing.
 use mathlib.Core.Path.{sym}
 use lib.Seq.{length-take-le}
-use Rattle.text.specs.AnswerLaws.{front_of}
+use Rattle.text.proofs.AnswerLaws.{front_of}
 use Rattle.text.proofs.refusal.refusal_line.Goals as goal
 
 pub slice_bounds-line-end : goal.slice_bounds-line-end

@@ -5,7 +5,7 @@ use mathlib.Core.Path.{◌≡◌, ap, ◌∙◌}
 use Prim.Native.Nat.{ℕ}
 use Rattle.prices.specs.Tariff.{built_in}
 use Rattle.request_log.specs.Fields.{server_count_of}
-use Rattle.text.specs.AnswerLaws.{front_of}
+use Rattle.text.proofs.AnswerLaws.{front_of}
 use Rattle.text.specs.Page.{page, added}
 use Rattle.week.specs.PageLaws.{few_servers, page_fits, plan_few, plan_placed, table_daily, table_page}
 use Rattle.week.specs.Pages.{page_of}
