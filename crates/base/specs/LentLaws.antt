@@ -1,8 +1,7 @@
 -- A lent list filled from its front, then zeroed beyond.
-use Rattle.std.specs.Prelude.{List, [], ◌∷◌, ◌++◌, ◌≡◌, refl, ℕ, suc, ◌+◌, ◌-◌, ◌≤◌, ◌<◌, length, drop, get_or, set}
+use Rattle.std.specs.Prelude.{List, [], ◌∷◌, ◌++◌, ◌≡◌, refl, ℕ, suc, ◌+◌, ◌-◌, ◌≤◌, ◌<◌, length, drop, get_or, set, Ok}
 use Rattle.std.proofs.Common.{append_assoc, sym, ◌∙◌, add-one, arith, length-append, length-set, length-drop, drop-cons, take_at}
 use Rattle.std.proofs.lemmas.List.{set_at}
-use Rattle.base.specs.declared.Verdict.TheVariants.{Passed}
 use Rattle.base.specs.Lent.{lent}
 use Rattle.base.specs.Lists.{build, build_length, cleared}
 
@@ -14,7 +13,7 @@ fill_next f i o h =
     (sym (append_assoc (build i f) (f i ∷ []) (drop (suc i) o)))
 
 -- an answer at the front of a list, and zeros after it
-pub lent_front : (xs o : List ℕ) (n : ℕ) → length xs ≡ n → n ≤ length o → cleared n (xs ++ drop n o) ≡ lent Passed xs o
+pub lent_front : (xs o : List ℕ) (n : ℕ) → length xs ≡ n → n ≤ length o → cleared n (xs ++ drop n o) ≡ lent (Ok tt) xs o
 unfolding lent
 lent_front xs o n e h =
     let a : length (xs ++ drop n o) - n ≡ length o - length xs = simp (length-append, length-drop) (omega arith) in
@@ -40,5 +39,5 @@ filling_next f o out i k x c l e v = record {
 }
 
 -- after the loop, with zeros beyond
-pub filling_ends : (f : ℕ → ℕ) (o out : List ℕ) (n k : ℕ) → n ≤ length o → k ≡ n → out ≡ build n f ++ drop n o → cleared k out ≡ lent Passed (build n f) o
+pub filling_ends : (f : ℕ → ℕ) (o out : List ℕ) (n k : ℕ) → n ≤ length o → k ≡ n → out ≡ build n f ++ drop n o → cleared k out ≡ lent (Ok tt) (build n f) o
 filling_ends f o out n k l e front = rw (e, front) (lent_front (build n f) o n (build_length n f) l)

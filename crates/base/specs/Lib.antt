@@ -4,6 +4,7 @@ pub mod Choice
 pub mod Below
 pub mod Lists
 pub mod Bytes
+pub mod Reasons
 pub mod Refusals
 pub mod Sets
 pub mod Nearest

@@ -17,9 +17,13 @@ build (suc n) f = build n f ++ (f n ∷ [])
 unfoldable pub splice : {A : Type 0} → ℕ → List A → List A → List A
 splice at xs o = pick (leb (at + length xs) (length o)) (take at o ++ (xs ++ drop (at + length xs) o)) o
 
--- a list with 0 in the place of every element from a place on
+-- a list with one value in the place of every element from a place on
+abbrev pub filled : {A : Type 0} → A → ℕ → List A → List A
+filled z from o = take from o ++ replicate (length o - from) z
+
+-- a list of numbers with 0 there
 abbrev pub cleared : ℕ → List ℕ → List ℕ
-cleared from o = take from o ++ replicate (length o - from) 0
+cleared = filled 0
 
 -- a test passes at every element
 unfoldable pub every : {A : Type 0} → (A → Bool) → List A → Bool

@@ -1,21 +1,19 @@
-// What every crate above needs: refusals, sets of servers in a word, total reads of bytes, numbers in wider types.
+// What every crate above needs: why a call is refused, sets of servers in a word, total reads of bytes.
 #![tactic(auto)]
 
 pub mod bytes;
+mod reasons;
 pub mod refusals;
 pub mod sets;
-pub mod widths;
 
-// A refusal: its number in the lists of 01 and 02, and its place (0 unless they name one).
-#[derive(Clone, Copy)]
+pub use reasons::Reason;
+
+// A refusal: its reason and its place, which is 0 unless 01 or 02 names one.
+#[derive(Clone, Copy, Debug, PartialEq, Eq)]
 pub struct Refusal {
-    pub number: u8,
+    pub reason: Reason,
     pub place: u64,
 }
 
-// What a list of conditions gives: none held, or the refusal by the first that did.
-#[derive(Clone, Copy)]
-pub enum Verdict {
-    Passed,
-    Refused(Refusal),
-}
+// What a list of conditions gives: nothing, or the refusal by the first that holds.
+pub type Verdict = Result<(), Refusal>;

@@ -4,8 +4,6 @@ ghost use Rattle.base.specs.Choice.{pick};
 ghost use Rattle.base.specs.Sets.{has, put, cut, members, lowest};
 ghost use Rattle.base.specs.Nearest.{nearest};
 
-use crate::widths::u32_from_u16;
-
 // Is server k a member?
 pub fn has(w: u64, k: u16) -> bool
     ensures { result ≡ has w k }
@@ -61,7 +59,7 @@ pub fn nearest(w: u64, t: u16) -> u32
     if 64 <= t {
         return 63 - u64::leading_zeros(w);
     }
-    let at = u32_from_u16(t);
+    let at = u32::from(t);
     let behind = u64::leading_zeros(w << 1u16 << (63 - t)) + 1;
     let ahead = lowest(w >> t);
     if behind <= ahead {

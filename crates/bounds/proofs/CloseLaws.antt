@@ -1,9 +1,8 @@
 -- A closed state stays as it is, so of all the closes in a list at most one is not refused.
-use Rattle.std.specs.Prelude.{true, List, [], ◌∷◌, ◌++◌, ◌≡◌, refl}
+use Rattle.std.specs.Prelude.{true, List, [], ◌∷◌, ◌++◌, ◌≡◌, refl, Ok, Err}
+use Rattle.base.specs.Refusals.{Verdict}
 use Rattle.std.proofs.Common.{sym, ap₂, ◌∙◌}
 use Rattle.base.specs.Choice.{not_both}
-use Rattle.base.specs.declared.Verdict.{Verdict}
-use Rattle.base.specs.declared.Verdict.TheVariants.{Passed, Refused}
 use Rattle.online.specs.declared.Cache.{Cache}
 use Rattle.online.specs.Rules.{shut}
 use Rattle.online.specs.Passed.{scan_passed, close_passed}
@@ -11,7 +10,7 @@ use Rattle.bounds.specs.Calls.{Call, scan, close, verdict, after, run, TakenClos
 use Rattle.bounds.proofs.CallLaws.{after_close, after_refused}
 
 -- no call passes on a closed state
-closed_refuses : (c : Cache) (a : Call) → c.closed ≡ true → verdict c a ≡ Passed → ⊥
+closed_refuses : (c : Cache) (a : Call) → c.closed ≡ true → verdict c a ≡ Ok tt → ⊥
 unfolding verdict
 closed_refuses c (scan id second server) h e = not_both h (scan_passed c id second server e).not_closed
 closed_refuses c close h e = not_both h (close_passed c e).1
@@ -21,8 +20,8 @@ closed_after : (c : Cache) (a : Call) → c.closed ≡ true → after c a ≡ c
 closed_after c a h = go (verdict c a) refl
   where
     go : (v : Verdict) → verdict c a ≡ v → after c a ≡ c
-    go Passed e = absurd (closed_refuses c a h e)
-    go (Refused r) e = after_refused c a r e
+    go (Ok _) e = absurd (closed_refuses c a h e)
+    go (Err r) e = after_refused c a r e
 
 closed_run : (c : Cache) (calls : List Call) → c.closed ≡ true → run c calls ≡ c
 unfolding run
@@ -30,15 +29,15 @@ closed_run c [] h = refl
 closed_run c (a ∷ calls) h = rw (closed_after c a h) (closed_run c calls h)
 
 -- after a close that passes, with any calls between, none does
-only_close : (c : Cache) (between : List Call) → verdict c close ≡ Passed → verdict (run (after c close) between) close ≡ Passed → ⊥
+only_close : (c : Cache) (between : List Call) → verdict c close ≡ Ok tt → verdict (run (after c close) between) close ≡ Ok tt → ⊥
 unfolding verdict shut
 only_close c between e f =
     closed_refuses (shut c) close refl
     (rw (after_close c e, closed_run (shut c) between refl) at f)
 
 -- two that pass in one list are the same one
-same_place : (c : Cache) (xs ys us vs : List Call) → xs ++ (close ∷ us) ≡ ys ++ (close ∷ vs) → verdict (run c xs) close ≡ Passed
-    → verdict (run c ys) close ≡ Passed → xs ≡ ys
+same_place : (c : Cache) (xs ys us vs : List Call) → xs ++ (close ∷ us) ≡ ys ++ (close ∷ vs) → verdict (run c xs) close ≡ Ok tt
+    → verdict (run c ys) close ≡ Ok tt → xs ≡ ys
 unfolding run
 same_place c [] [] us vs e f g = refl
 same_place c [] (b ∷ ys) us vs e f g = let z : close ≡ b = cc in absurd (only_close c ys f (rw (← z) at g))

@@ -1,12 +1,11 @@
 -- Every list of calls from a fresh state: it refuses what the calls alone say, and ends in the state that the requests taken lead to.
 use mathlib.Core.List.{List, [], ◌∷◌}
-use Rattle.std.specs.Prelude.{◌≡◌, length}
+use Rattle.base.specs.Refusals.{Verdict}
+use Rattle.std.specs.Prelude.{◌≡◌, length, Ok, Err}
 use Rattle.std.proofs.Math.Path.{refl, sym, ap, ap₂}
 use Rattle.std.proofs.Common.{◌∙◌}
 use native.Mathlib.Omega.{arith}
 use Prim.Native.Nat.{ℕ, suc, ◌+◌}
-use Rattle.base.specs.declared.Verdict.{Verdict}
-use Rattle.base.specs.declared.Verdict.TheVariants.{Passed, Refused}
 use Rattle.prices.specs.declared.Prices.{Prices}
 use Rattle.prices.specs.Prices.{prices_of, InRange}
 use Rattle.request_log.specs.declared.Header.{Header}
@@ -57,25 +56,25 @@ module _ (table : List Prices) (s : Header) (k : Allowed (setup_in s)) (range : 
       → Follows q i (with_request v a (taken s (advanced v a p) calls)) → i + length (with_request v a (taken s (advanced v a p) calls)) ≡ n
       → Led calls (after c a) (advanced v a p) n
   unfolding verdict Follows with_request advanced accept shut
-  step calls ih (scan id τ x) c p i n Passed e a f l =
+  step calls ih (scan id τ x) c p i n (Ok _) e a f l =
       rw (after_scan c id τ x e)
-      (ih (accept c τ x) (advanced Passed (scan id τ x) p) (suc i) n
+      (ih (accept c τ x) (advanced (Ok tt) (scan id τ x) p) (suc i) n
       (record {
         reached = reached_scan table s q c i id τ x a.reached e f.0 f.1;
         second_is = sym f.0;
         taken_is = ap suc a.taken_is;
         closed_is = a.closed_is;
       }) f.2 (omega arith))
-  step calls ih close c p i n Passed e a f l =
+  step calls ih close c p i n (Ok _) e a f l =
       rw (after_close c e)
-      (ih (shut c) (advanced Passed close p) i n
+      (ih (shut c) (advanced (Ok tt) close p) i n
       (record {
         reached = reached_shut table s q c i a.reached;
         second_is = a.second_is;
         taken_is = a.taken_is;
         closed_is = refl;
       }) f l)
-  step calls ih a c p i n (Refused x) e al f l = rw (after_refused c a x e) (ih c p i n al f l)
+  step calls ih a c p i n (Err x) e al f l = rw (after_refused c a x e) (ih c p i n al f l)
 
   -- every list does
   pub onward : (calls : List Call) → Onward calls

@@ -1,10 +1,9 @@
 -- A scan of another file leaves no trace: a list of calls leads where it leads without such scans. Assumes nothing.
-use Rattle.std.specs.Prelude.{Bool, true, false, List, [], ◌∷◌, ◌≡◌, refl, ℕ}
+use Rattle.std.specs.Prelude.{Bool, true, false, List, [], ◌∷◌, ◌≡◌, refl, ℕ, Ok, Err}
+use Rattle.base.specs.Refusals.{Verdict}
 use Rattle.std.proofs.Common.{ap, ◌∙◌}
 use Rattle.base.specs.Lists.{same}
 use Rattle.base.specs.SameLaws.{same_unequal}
-use Rattle.base.specs.declared.Verdict.{Verdict}
-use Rattle.base.specs.declared.Verdict.TheVariants.{Passed, Refused}
 use Rattle.request_log.specs.declared.Header.{Header}
 use Rattle.online.specs.declared.Cache.{Cache}
 use Rattle.online.specs.Rules.{accept, shut}
@@ -20,9 +19,9 @@ unfolding verdict accept shut
 after_id c a = go a (verdict c a) refl
   where
     go : (b : Call) (v : Verdict) → verdict c b ≡ v → (after c b).id ≡ c.id
-    go (scan id τ x) Passed e = ap (λ (d : Cache). d.id) (after_scan c id τ x e)
-    go close Passed e = ap (λ (d : Cache). d.id) (after_close c e)
-    go b (Refused r) e = ap (λ (d : Cache). d.id) (after_refused c b r e)
+    go (scan id τ x) (Ok _) e = ap (λ (d : Cache). d.id) (after_scan c id τ x e)
+    go close (Ok _) e = ap (λ (d : Cache). d.id) (after_close c e)
+    go b (Err r) e = ap (λ (d : Cache). d.id) (after_refused c b r e)
 
 -- a scan of another file gives back the state as it was
 after_other : (c : Cache) (id : List ℕ) (τ x : ℕ) → same id c.id ≡ false → after c (scan id τ x) ≡ c
@@ -30,8 +29,8 @@ unfolding verdict
 after_other c id τ x f = go (verdict c (scan id τ x)) refl
   where
     go : (v : Verdict) → verdict c (scan id τ x) ≡ v → after c (scan id τ x) ≡ c
-    go Passed e = absurd (same_unequal id c.id f (scan_own c id τ x e))
-    go (Refused r) e = after_refused c (scan id τ x) r e
+    go (Ok _) e = absurd (same_unequal id c.id f (scan_own c id τ x e))
+    go (Err r) e = after_refused c (scan id τ x) r e
 
 -- so a list leads to the same state without them
 pub run_own : (own : List ℕ) (c : Cache) → c.id ≡ own → (calls : List Call) → run c (of_file own calls) ≡ run c calls
@@ -61,5 +60,5 @@ taken_unmixed s p (scan id τ x ∷ calls) =
     go : (b : Bool) → same id s.id ≡ b → (v : Verdict) → due s p a ≡ v → taken s (advanced (due s p a) a p) (of_file s.id calls) ≡ taken s (advanced (due s p a) a p) calls
         → taken s p (of_file s.id calls) ≡ taken s p calls → taken s p (of_file s.id (a ∷ calls)) ≡ taken s p (a ∷ calls)
     go true f v e own other = rw f (ap (with_request (due s p a) a) own)
-    go false f Passed e own other = absurd (same_unequal id s.id f (due_own s p id τ x e))
-    go false f (Refused r) e own other = rw (f, e) other
+    go false f (Ok _) e own other = absurd (same_unequal id s.id f (due_own s p id τ x e))
+    go false f (Err r) e own other = rw (f, e) other

@@ -1,11 +1,10 @@
 -- The states that requests lead to from a fresh one: each agrees with the history of the requests, and 32 does not hold.
-use Rattle.std.specs.Prelude.{true, List, ◌⊎◌, ◌≢◌, ◌≡◌, refl, ℕ, suc, ◌≤◌, ◌<◌, eqb, get_or}
+use Rattle.std.specs.Prelude.{true, List, ◌⊎◌, ◌≢◌, ◌≡◌, refl, ℕ, suc, ◌≤◌, ◌<◌, eqb, get_or, Ok}
 use Rattle.std.proofs.Common.{inl, inr, sym, ap, ◌∙◌, arith, eq-eqb, ne_eqb}
 use Rattle.std.proofs.Math.Option.{some}
 use Rattle.base.specs.Choice.{same_or_not, not_both}
 use Rattle.base.specs.Lists.{build, build_at}
 use Rattle.base.specs.Sets.{has}
-use Rattle.base.specs.declared.Verdict.TheVariants.{Passed}
 use Rattle.prices.specs.declared.Prices.{Prices}
 use Rattle.prices.specs.Prices.{prices_of, window, InRange}
 use Rattle.request_log.specs.declared.Header.{Header}
@@ -99,7 +98,7 @@ reached_next table s q c i r f =
 
 -- the request at a second and a server whose scan is not refused
 pub reached_scan : (table : List Prices) (s : Header) (q : Requests) (c : Cache) (i : ℕ) (id : List ℕ) (second server : ℕ) → Reached table s q c i
-    → scan_verdict c id second server ≡ Passed → q.time (suc i) ≡ second → q.server (suc i) ≡ server → Reached table s q (accept c second server) (suc i)
+    → scan_verdict c id second server ≡ Ok tt → q.time (suc i) ≡ second → q.server (suc i) ≡ server → Reached table s q (accept c second server) (suc i)
 reached_scan table s q c i id second server r e t x = rw (← t, ← x) (reached_next table s q c i r (rw (t, x) (scan_passed c id second server e)))
 
 -- the close

@@ -1,9 +1,8 @@
 -- A list of calls, as 01's 'What demand 3 compares' has it: each call gets the state last given back. Assumes nothing.
-use Rattle.std.specs.Prelude.{List, [], ◌∷◌, ◌++◌, map, ◌≡◌, ℕ}
+use Rattle.std.specs.Prelude.{List, [], ◌∷◌, ◌++◌, map, ◌≡◌, ℕ, Ok}
+use Rattle.base.specs.Refusals.{Verdict}
 use Rattle.base.specs.Choice.{pick}
 use Rattle.base.specs.Lists.{same}
-use Rattle.base.specs.declared.Verdict.{Verdict}
-use Rattle.base.specs.declared.Verdict.TheVariants.{Passed}
 use Rattle.model.specs.Requests.{Requests, requests}
 use Rattle.online.specs.declared.Cache.{Cache}
 use Rattle.online.specs.Answers.{scan_verdict, close_verdict, scanned, closed_answer}
@@ -46,7 +45,7 @@ pub record TakenClose (c : Cache) (calls : List Call) : Type 0 where
   pub before : List Call
   pub later : List Call
   pub among : calls ≡ before ++ (close ∷ later)
-  pub passed : verdict (run c before) close ≡ Passed
+  pub passed : verdict (run c before) close ≡ Ok tt
 
 -- a request (01: scan): the id of its file, its second and its server
 pub record Request : Type 0 where

@@ -1,8 +1,7 @@
 -- What is claimed of a list of scan and close calls: the second half of demand 3, with 02's closing cost. Assumes nothing.
-use Rattle.std.specs.Prelude.{false, ◌≢◌, ◌≡◌, ℕ, ◌+◌, ◌*◌, ◌≤◌, ◌<◌, length}
+use Rattle.std.specs.Prelude.{false, ◌≢◌, ◌≡◌, ℕ, ◌+◌, ◌*◌, ◌≤◌, ◌<◌, length, Err}
 use mathlib.Core.List.{List, Memᴰ}
 use Rattle.base.specs.declared.Refusal.{Refusal}
-use Rattle.base.specs.declared.Verdict.TheVariants.{Refused}
 use Rattle.prices.specs.declared.Prices.{Prices}
 use Rattle.prices.specs.Prices.{prices_of, window}
 use Rattle.request_log.specs.declared.Header.{Header}
@@ -17,6 +16,7 @@ use Rattle.bounds.specs.Calls.{Call, run, verdicts, Request, requests_of}
 use Rattle.bounds.specs.Progress.{begun, dues, taken, progress}
 use Rattle.bounds.specs.History.{held, transfers}
 use Rattle.bounds.specs.History as history
+use Rattle.base.specs.Reasons.{number}
 
 -- the table and what else a start was given, the state that it gave back, and a list of calls after it
 module _ (table : List Prices) (s : Header) (first : Cache) (calls : List Call) where
@@ -41,7 +41,7 @@ module _ (table : List Prices) (s : Header) (first : Cache) (calls : List Call) 
   -- transfer price.
   pub record Claim : Type 0 where
     pub refused : verdicts first calls ≡ dues s begun calls
-    pub never_32 : (x : Refusal) → Memᴰ (Refused x) (verdicts first calls) → x.number ≢ 32
+    pub never_32 : (x : Refusal) → Memᴰ (Err x) (verdicts first calls) → number x.reason ≢ 32
     pub unbroken : broken final ≡ false
     pub own_file : (r : Request) → Memᴰ r (taken s begun calls) → r.id ≡ s.id
     pub rising : Rising served served_count

@@ -1,10 +1,9 @@
 -- What a list of calls comes to, from what the start was given and the calls alone: no state in sight. Assumes nothing.
-use Rattle.std.specs.Prelude.{Bool, true, false, not, List, [], ◌∷◌, ℕ, suc, leb, ltb, eqb}
+use Rattle.std.specs.Prelude.{Bool, true, false, not, List, [], ◌∷◌, ℕ, suc, leb, ltb, eqb, Ok, Err}
+use Rattle.base.specs.declared.reasons.Reason.TheVariants as reason
 use Rattle.base.specs.Choice.{either}
 use Rattle.base.specs.Lists.{same}
-use Rattle.base.specs.Refusals.{Condition, refuse, first}
-use Rattle.base.specs.declared.Verdict.{Verdict}
-use Rattle.base.specs.declared.Verdict.TheVariants.{Passed, Refused}
+use Rattle.base.specs.Refusals.{Condition, refuse, first, Verdict}
 use Rattle.request_log.specs.declared.Header.{Header}
 use Rattle.bounds.specs.Calls.{Call, scan, close, Request}
 
@@ -22,14 +21,14 @@ begun = record { second = 0; taken = 0; closed = false }
 -- the last one taken. A close: 33
 unfoldable pub call_conditions : Header → Progress → Call → List Condition
 call_conditions s p (scan id second server) =
-    refuse 11 0 (leb s.server_count server)
-    ∷ refuse 12 0 (either (eqb second 0) (ltb 4000000 second))
-    ∷ refuse 33 0 p.closed
-    ∷ refuse 39 0 (not (same id s.id))
-    ∷ refuse 34 0 (leb 2048 p.taken)
-    ∷ refuse 35 0 (leb second p.second)
+    refuse reason.UnknownServer 0 (leb s.server_count server)
+    ∷ refuse reason.SecondRange 0 (either (eqb second 0) (ltb 4000000 second))
+    ∷ refuse reason.Closed 0 p.closed
+    ∷ refuse reason.OtherFile 0 (not (same id s.id))
+    ∷ refuse reason.Full 0 (leb 2048 p.taken)
+    ∷ refuse reason.PastSecond 0 (leb second p.second)
     ∷ []
-call_conditions s p close = refuse 33 0 p.closed ∷ []
+call_conditions s p close = refuse reason.Closed 0 p.closed ∷ []
 
 -- what refuses a call: the first that holds
 unfoldable pub due : Header → Progress → Call → Verdict
@@ -37,15 +36,15 @@ due s p a = first (call_conditions s p a)
 
 -- the progress with a call: a refused one adds nothing
 unfoldable pub advanced : Verdict → Call → Progress → Progress
-advanced Passed (scan id second server) p = record { second = second; taken = suc p.taken; closed = p.closed }
-advanced Passed close p = record { second = p.second; taken = p.taken; closed = true }
-advanced (Refused r) a p = p
+advanced (Ok _) (scan id second server) p = record { second = second; taken = suc p.taken; closed = p.closed }
+advanced (Ok _) close p = record { second = p.second; taken = p.taken; closed = true }
+advanced (Err r) a p = p
 
 -- with the request of a call before others, if the call is a scan that is not refused
 unfoldable pub with_request : Verdict → Call → List Request → List Request
-with_request Passed (scan id second server) rs = record { id = id; second = second; server = server } ∷ rs
-with_request Passed close rs = rs
-with_request (Refused r) a rs = rs
+with_request (Ok _) (scan id second server) rs = record { id = id; second = second; server = server } ∷ rs
+with_request (Ok _) close rs = rs
+with_request (Err r) a rs = rs
 
 -- of a list of calls after some progress: what refuses each, the requests taken, and the progress in the end
 unfoldable pub dues : Header → Progress → List Call → List Verdict

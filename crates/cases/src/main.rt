@@ -4,16 +4,18 @@
 
 use base::Refusal;
 use prices::built_in;
-use request_log::{Header, ReadOutcome, Written};
-use std::io;
+use request_log::Header;
 use std::io::Print;
+use std::{fmt, io};
+use streams::Answer;
 
-fn print_refusal(rt: &impl Print, r: Refusal) -> io::Result<()> {
-    println!(rt; " refused {} {}", r.number, r.place)
-}
-
-fn print_taken(rt: &impl Print, n: u64) -> io::Result<()> {
-    println!(rt; " taken {n}")
+// The end of a line: a number of requests or bytes, or the refusal.
+fn print_answer(rt: &impl Print, outcome: Result<u64, Refusal>) -> io::Result<()> {
+    let answer = Answer {
+        word: "taken",
+        outcome,
+    };
+    println!(rt; " {answer}")
 }
 
 fn read_case(
@@ -25,10 +27,7 @@ fn read_case(
 ) -> io::Result<()> {
     rt.print(name)?;
     let outcome = request_log::read(log, seconds, servers).outcome;
-    match outcome {
-        ReadOutcome::Requests(n) => print_taken(rt, n as u64),
-        ReadOutcome::Refused(r) => print_refusal(rt, r),
-    }
+    print_answer(rt, outcome.map(u64::from))
 }
 
 // A log read into lists that are long enough.
@@ -40,29 +39,10 @@ fn show(rt: &impl Print, name: &str, log: &[u8]) -> io::Result<()> {
 
 // The first n bytes of a log.
 fn show_part(rt: &impl Print, name: &str, log: &[u8], n: usize) -> io::Result<()> {
-    if n <= log.len() {
-        return show(rt, name, &log[..n]);
+    match log.get(..n) {
+        Some(part) => show(rt, name, part),
+        None => Ok(()),
     }
-    Ok(())
-}
-
-fn print_written(rt: &impl Print, w: Written) -> io::Result<()> {
-    match w {
-        Written::Length(n) => print_taken(rt, n),
-        Written::Refused(r) => print_refusal(rt, r),
-    }
-}
-
-fn write_case(
-    rt: &impl Print,
-    name: &str,
-    header: Header,
-    seconds: &[u32],
-    servers: &[u16],
-    log: &mut [u8],
-) -> io::Result<()> {
-    rt.print(name)?;
-    print_written(rt, writer::write(header, seconds, servers, log))
 }
 
 fn header(class: u8, server_count: u8, home: u8) -> Header {
@@ -77,20 +57,16 @@ fn header(class: u8, server_count: u8, home: u8) -> Header {
 // A log of two requests: 5 at 1, `second` at 0; 2 servers, home 0, class 0.
 fn sample(second: u32) -> [u8; 52] {
     let mut log = [0u8; 52];
-    writer::write(header(0, 2, 0), &[5u32, second], &[1u16, 0], &mut log);
+    let _ = writer::write(header(0, 2, 0), &[5u32, second], &[1u16, 0], &mut log);
     log
-}
-
-fn put(log: &mut [u8], at: usize, b: u8) {
-    if at < log.len() {
-        log[at] = b;
-    }
 }
 
 // The same log with one byte changed.
 fn altered(log: [u8; 52], at: usize, b: u8) -> [u8; 52] {
     let mut next = log;
-    put(&mut next, at, b);
+    if at < next.len() {
+        next[at] = b;
+    }
     next
 }
 
@@ -102,25 +78,37 @@ fn changed(log: [u8; 52], at: usize, b: u8) -> [u8; 52] {
     next
 }
 
-// Bytes of the sample, each set to the value beside it: version, class, server count, home, byte 5, offsets and total, then the
+// Bytes of the sample, and the value that each is set to: version, class, server count, home, byte 5, offsets and total, then the
 // server and second of both requests.
-const AT: [usize; 21] = [
-    0, 1, 2, 2, 3, 3, 3, 4, 4, 5, 8, 12, 16, 50, 50, 45, 40, 46, 46, 46, 46,
+const BYTES: [(usize, u8); 21] = [
+    (0, 2),
+    (1, 1),
+    (2, 7),
+    (2, 8),
+    (3, 0),
+    (3, 64),
+    (3, 65),
+    (4, 1),
+    (4, 2),
+    (5, 1),
+    (8, 41),
+    (12, 25),
+    (16, 53),
+    (50, 1),
+    (50, 2),
+    (45, 1),
+    (40, 0),
+    (46, 5),
+    (46, 6),
+    (46, 4),
+    (46, 8),
 ];
-
-const TO: [u8; 21] = [
-    2, 1, 7, 8, 0, 64, 65, 1, 2, 1, 41, 25, 53, 1, 2, 1, 0, 5, 6, 4, 8,
-];
-
-fn byte_case(rt: &impl Print, log: [u8; 52], at: usize, b: u8) -> io::Result<()> {
-    print!(rt; "byte {at} set to {b}")?;
-    show(rt, ":", &changed(log, at, b))
-}
 
 fn byte_cases(rt: &impl Print) -> io::Result<()> {
     let log = sample(8);
-    for i in 0..21 {
-        byte_case(rt, log, AT[i], TO[i])?;
+    for (at, b) in BYTES {
+        print!(rt; "byte {at} set to {b}")?;
+        show(rt, ":", &changed(log, at, b))?;
     }
     Ok(())
 }
@@ -164,10 +152,7 @@ fn room_case(rt: &impl Print, log: [u8; 52], i: usize, j: usize) -> io::Result<(
     let mut seconds = [7u32; 2];
     let mut servers = [7u16; 2];
     print!(rt; "room for {i} {j}")?;
-    if 2 < i {
-        return Ok(());
-    }
-    if 2 < j {
+    if 2 < i || 2 < j {
         return Ok(());
     }
     read_case(rt, ":", &log, &mut seconds[..i], &mut servers[..j])
@@ -181,118 +166,174 @@ fn room_cases(rt: &impl Print) -> io::Result<()> {
     room_case(rt, changed(log, 2, 8), 1, 1)
 }
 
-// What the writer is handed: class, server count, home, both seconds and both servers, the number of servers given, the room.
-const WRITES: [[u32; 9]; 24] = [
-    [6, 2, 0, 5, 8, 1, 0, 2, 60],
-    [7, 2, 0, 5, 8, 1, 0, 2, 60],
-    [8, 2, 0, 5, 8, 1, 0, 2, 60],
-    [7, 0, 0, 5, 8, 1, 0, 2, 60],
-    [7, 65, 0, 5, 8, 1, 0, 2, 60],
-    [7, 2, 2, 5, 8, 1, 0, 2, 60],
-    [7, 2, 0, 5, 8, 1, 0, 1, 60],
-    [7, 2, 0, 0, 8, 1, 0, 2, 60],
-    [7, 2, 0, 5, 8, 1, 0, 2, 51],
-    [0, 0, 0, 5, 8, 1, 0, 2, 60],
-    [0, 64, 0, 5, 8, 1, 63, 2, 60],
-    [0, 65, 0, 5, 8, 1, 0, 2, 60],
-    [0, 2, 1, 5, 8, 1, 0, 2, 60],
-    [0, 2, 2, 5, 8, 1, 0, 2, 60],
-    [0, 2, 0, 0, 8, 1, 0, 1, 60],
-    [0, 2, 0, 5, 8, 1, 2, 2, 60],
-    [0, 64, 0, 5, 8, 1, 65535, 2, 60],
-    [0, 2, 0, 0, 8, 1, 0, 2, 60],
-    [0, 2, 0, 5, 4000000, 1, 0, 2, 60],
-    [0, 2, 0, 5, 4000001, 1, 0, 2, 60],
-    [0, 2, 0, 8, 8, 1, 0, 2, 60],
-    [0, 2, 0, 8, 7, 1, 0, 2, 60],
-    [0, 2, 0, 5, 8, 1, 0, 2, 51],
-    [0, 2, 0, 5, 8, 1, 0, 2, 52],
-];
-
-fn low8(x: u32) -> u8 {
-    (x % 256) as u8
-}
-
-fn low16(x: u32) -> u16 {
-    (x % 65536) as u16
-}
-
-fn write_first(
-    rt: &impl Print,
-    header: Header,
+// What the writer is handed; so many of both servers are given, and so many bytes of room.
+#[derive(Clone, Copy)]
+struct Write {
+    class: u8,
+    server_count: u8,
+    home: u8,
     seconds: [u32; 2],
     servers: [u16; 2],
-    n: usize,
+    given: usize,
     room: usize,
-) -> io::Result<()> {
+}
+
+impl fmt::Display for Write {
+    fn fmt<W: fmt::Write>(&self, f: &mut fmt::Formatter<W>) -> fmt::Result {
+        write!(
+            f,
+            "write {} {} {}",
+            self.class, self.server_count, self.home
+        )?;
+        write!(f, " {} {}", self.seconds[0], self.seconds[1])?;
+        write!(f, " {} {}", self.servers[0], self.servers[1])?;
+        write!(f, " {} {}", self.given, self.room)
+    }
+}
+
+// One that is taken, of class 0.
+const TAKEN: Write = Write {
+    class: 0,
+    server_count: 2,
+    home: 0,
+    seconds: [5, 8],
+    servers: [1, 0],
+    given: 2,
+    room: 60,
+};
+
+const WRITES: [Write; 24] = [
+    Write { class: 6, ..TAKEN },
+    Write { class: 7, ..TAKEN },
+    Write { class: 8, ..TAKEN },
+    Write {
+        class: 7,
+        server_count: 0,
+        ..TAKEN
+    },
+    Write {
+        class: 7,
+        server_count: 65,
+        ..TAKEN
+    },
+    Write {
+        class: 7,
+        home: 2,
+        ..TAKEN
+    },
+    Write {
+        class: 7,
+        given: 1,
+        ..TAKEN
+    },
+    Write {
+        class: 7,
+        seconds: [0, 8],
+        ..TAKEN
+    },
+    Write {
+        class: 7,
+        room: 51,
+        ..TAKEN
+    },
+    Write {
+        server_count: 0,
+        ..TAKEN
+    },
+    Write {
+        server_count: 64,
+        servers: [1, 63],
+        ..TAKEN
+    },
+    Write {
+        server_count: 65,
+        ..TAKEN
+    },
+    Write { home: 1, ..TAKEN },
+    Write { home: 2, ..TAKEN },
+    Write {
+        seconds: [0, 8],
+        given: 1,
+        ..TAKEN
+    },
+    Write {
+        servers: [1, 2],
+        ..TAKEN
+    },
+    Write {
+        server_count: 64,
+        servers: [1, 65535],
+        ..TAKEN
+    },
+    Write {
+        seconds: [0, 8],
+        ..TAKEN
+    },
+    Write {
+        seconds: [5, 4000000],
+        ..TAKEN
+    },
+    Write {
+        seconds: [5, 4000001],
+        ..TAKEN
+    },
+    Write {
+        seconds: [8, 8],
+        ..TAKEN
+    },
+    Write {
+        seconds: [8, 7],
+        ..TAKEN
+    },
+    Write { room: 51, ..TAKEN },
+    Write { room: 52, ..TAKEN },
+];
+
+fn write_case(rt: &impl Print, case: Write) -> io::Result<()> {
     let mut log = [9u8; 60];
-    if 2 < n {
+    if 2 < case.given || 60 < case.room {
         return Ok(());
     }
-    if 60 < room {
-        return Ok(());
-    }
-    write_case(rt, ":", header, &seconds, &servers[..n], &mut log[..room])
-}
-
-fn write_row(rt: &impl Print, w: [u32; 9]) -> io::Result<()> {
-    print!(rt; "write")?;
-    for i in 0..9 {
-        print!(rt; " {}", w[i])?;
-    }
-    write_first(
-        rt,
-        header(low8(w[0]), low8(w[1]), low8(w[2])),
-        [w[3], w[4]],
-        [low16(w[5]), low16(w[6])],
-        w[7] as usize,
-        w[8] as usize,
-    )
-}
-
-fn write_cases(rt: &impl Print) -> io::Result<()> {
-    for i in 0..24 {
-        write_row(rt, WRITES[i])?;
-    }
-    Ok(())
+    print!(rt; "{case}:")?;
+    let outcome = writer::write(
+        header(case.class, case.server_count, case.home),
+        &case.seconds,
+        &case.servers[..case.given],
+        &mut log[..case.room],
+    );
+    print_answer(rt, outcome)
 }
 
 // Class 7 of a price file that says the built-in table; and the log, which is then one of class 7 of the built-in table.
 fn loaded_case(rt: &impl Print) -> io::Result<()> {
     let mut log = [9u8; 52];
     let prices = built_in();
-    let w = writer::write_with(&prices, header(7, 2, 0), &[5u32, 8], &[1u16, 0], &mut log);
+    let outcome = writer::write_with(&prices, header(7, 2, 0), &[5u32, 8], &[1u16, 0], &mut log);
     print!(rt; "class 7 by a price file:")?;
-    print_written(rt, w)?;
+    print_answer(rt, outcome)?;
     show(rt, "its log without the file:", &log)
 }
 
 // 1, 2, .., one each second.
-fn count_up(seconds: &mut [u32]) {
-    let mut t: u32 = 0;
-    for i in 0..seconds.len() {
-        t = std::num::wrapping_add_u32(t, 1);
-        seconds[i] = t;
+fn count_up() -> [u32; 2049] {
+    let mut seconds = [0u32; 2049];
+    for t in 0..2049u32 {
+        seconds[t as usize] = t + 1;
     }
+    seconds
 }
 
 // A log of n requests, each at server 0.
 fn long_case(rt: &impl Print, n: usize) -> io::Result<()> {
-    let mut seconds = [0u32; 2049];
-    count_up(&mut seconds);
+    let seconds = count_up();
     let servers = [0u16; 2049];
     let mut log = [9u8; 12334];
     if 2049 < n {
         return Ok(());
     }
-    write_case(
-        rt,
-        "a log of one server:",
-        header(0, 1, 0),
-        &seconds[..n],
-        &servers[..n],
-        &mut log,
-    )?;
+    print!(rt; "a log of one server:")?;
+    let outcome = writer::write(header(0, 1, 0), &seconds[..n], &servers[..n], &mut log);
+    print_answer(rt, outcome)?;
     show_part(rt, "its first 12,328 bytes:", &log, 12328)?;
     show_part(rt, "its first 40 bytes:", &log, 40)
 }
@@ -302,7 +343,9 @@ fn main(rt: HostRuntime) -> io::Result<()> {
     other_cases(&rt)?;
     length_cases(&rt, sample(8))?;
     room_cases(&rt)?;
-    write_cases(&rt)?;
+    for case in WRITES {
+        write_case(&rt, case)?;
+    }
     loaded_case(&rt)?;
     long_case(&rt, 0)?;
     long_case(&rt, 2048)?;

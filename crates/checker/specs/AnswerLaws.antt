@@ -1,8 +1,7 @@
 -- The answer by the verdicts of the log, the upload price and the schedule, and the bounds of a cost that is answered.
-use Rattle.std.specs.Prelude.{List, ◌++◌, ◌≡◌, ℕ, zero, suc, ◌^◌, ◌≤◌, ◌<◌}
+use Rattle.std.specs.Prelude.{List, ◌++◌, ◌≡◌, ℕ, zero, suc, ◌≤◌, Ok}
 use Rattle.std.proofs.Math.Option.{Option}
 use Rattle.std.proofs.Common.{sym, ap, ◌∙◌, mul-le-mul, arith}
-use Rattle.base.specs.declared.Verdict.TheVariants.{Passed}
 use Rattle.base.specs.Refusals.{first, otherwise}
 use Rattle.base.specs.RefusalLaws.{first_append}
 use Rattle.prices.specs.Tariff.{Tariff}
@@ -14,16 +13,15 @@ use Rattle.request_log.specs.ConditionLaws.{after_log}
 use Rattle.request_log.specs.Ranges.{Sound}
 use Rattle.request_log.specs.AcceptedLaws.{accepted_sound}
 use Rattle.model.specs.Rates.{rates, some?}
-use Rattle.model.specs.Sums.{total}
 use Rattle.model.specs.Requests.{requests}
 use Rattle.model.specs.LogRequests.{requests_in, prices_in, rates_in}
 use Rattle.model.proofs.LogRequestLaws.{log_priced}
-use Rattle.model.specs.Schedule.{length_of, is_transfer, is_upload}
 use Rattle.model.specs.RowForm.{rows_of}
 use Rattle.model.specs.Checking.{schedule_conditions}
 use Rattle.model.proofs.CheckingLaws.{accepts_iff}
 use Rattle.model.proofs.CostBound.{hold_seconds, transfer_count, upload_count}
 use Rattle.checker.specs.Answers.{check_conditions, check_verdict_of}
+use Rattle.checker.specs.CostLaws.{SumsFit}
 use Rattle.checker.specs.Quick.{schedule_tests}
 use Rattle.checker.specs.QuickTests.{same_verdict}
 
@@ -46,8 +44,8 @@ last_most log a zero l = omega arith
 last_most log a (suc k) l = (a.in_order k l).second_most
 
 -- the seconds held, the transfers and the uploads of accepted rows
-pub sums_fit : (t : Tariff) (u : Option ℕ) (log ns : List ℕ) → verdict_of t log ≡ Passed → first (schedule_tests (some? u) log ns) ≡ Passed
-    → (total length_of (rows_of ns) < 2 ^ 40) × (total is_transfer (rows_of ns) < 2 ^ 40) × (total is_upload (rows_of ns) < 2 ^ 40)
+pub sums_fit : (t : Tariff) (u : Option ℕ) (log ns : List ℕ) → verdict_of t log ≡ Ok tt → first (schedule_tests (some? u) log ns) ≡ Ok tt
+    → SumsFit ns
 unfolding Accepted rates
 sums_fit t u log ns a e =
     let s = accepted_sound t log a in
@@ -64,6 +62,6 @@ sums_fit t u log ns a e =
     )
 
 -- the prices of an accepted log
-pub prices_fit : (t : Tariff) → Priced t → (log : List ℕ) → verdict_of t log ≡ Passed → ((prices_in t log).hold ≤ 1000000) × ((prices_in t log).transfer ≤ 1000000)
+pub prices_fit : (t : Tariff) → Priced t → (log : List ℕ) → verdict_of t log ≡ Ok tt → ((prices_in t log).hold ≤ 1000000) × ((prices_in t log).transfer ≤ 1000000)
 unfolding Accepted
 prices_fit t p log a = let r = log_priced t p log a in (r.hold_most, r.transfer_most)

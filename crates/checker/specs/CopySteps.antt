@@ -1,8 +1,8 @@
 -- One turn of each loop of 17, and its answer from its parts.
-use Rattle.std.specs.Prelude.{Bool, true, false, not, List, [], ◌∷◌, ◌≡◌, ℕ, suc, ◌+◌, ◌-◌, ◌≤◌, ◌<◌, ltb, eqb}
+use Rattle.std.specs.Prelude.{Bool, false, List, ◌≡◌, ℕ, zero, suc, ◌+◌, ◌-◌, ◌≤◌, ◌<◌, min, eqb}
 use Rattle.std.proofs.Common.{sym, ap, arith, lt-ltb, le-ltb}
 use Rattle.base.specs.Choice.{pick, either, both}
-use Rattle.base.specs.Refusals.{refuse, first, each, otherwise}
+use Rattle.base.specs.Refusals.{first, each, otherwise}
 use Rattle.base.specs.RefusalLaws.{first_append}
 use Rattle.base.specs.Sets.{has}
 use Rattle.model.specs.RowForm.{row_at}
@@ -13,13 +13,7 @@ use Rattle.rows.specs.ReadingLaws.{server_read, target_read}
 use Rattle.rows.specs.Passes.{any_below, puts, starts}
 use Rattle.rows.specs.PassSteps.{aims_on}
 use Rattle.checker.specs.Search.{hold_key, second_key, upload_key, position}
-use Rattle.checker.specs.Quick.{standing_at, first_of, number_of, first_upload, loaded, fed, unfed, lower, starved, unbacked, hold_test, transfer_test, copy_tests}
-use Rattle.checker.specs.QuickSteps.{unless, alone}
-
--- one condition, which refuses where a test holds
-found : (b : Bool) (number place : ℕ) → first (refuse number place b ∷ []) ≡ unless (not b) number place
-found true number place = alone false number place
-found false number place = alone true number place
+use Rattle.checker.specs.Quick.{standing_at, first_of, number_of, first_upload, loaded, fed, unfed, starved, unbacked, hold_test, transfer_test, copy_tests}
 
 -- the transfers of a second, and its upload to the server
 pub fed_read : (home : ℕ) (ns : List ℕ) (t x from to : ℕ) (b d : Bool) → from ≡ position ns (second_key t) → to ≡ position ns (second_key (suc t))
@@ -46,7 +40,7 @@ unfolding unfed quad_at row_at
 unfed_read ns w t x p r m b e q d f = rw (← q, e, f, d)
 
 pub starved_more : (count home : ℕ) (ns : List ℕ) (from i low t w u v : ℕ) (r : Quad) → from ≤ i → low ≡ starved count home ns from (i - from)
-    → r ≡ quad_at ns i → t ≡ second_of (as_row r) → w ≡ standing_at count home ns t → u ≡ unfed ns w t r.b → v ≡ lower u low
+    → r ≡ quad_at ns i → t ≡ second_of (as_row r) → w ≡ standing_at count home ns t → u ≡ unfed ns w t r.b → v ≡ min u low
     → v ≡ starved count home ns from (i + 1 - from)
 unfolding starved quad_at row_at
 starved_more count home ns from i low t w u v r h e d p q f g =
@@ -57,7 +51,7 @@ starved_more count home ns from i low t w u v r h e d p q f g =
 -- ---- the first transfer without a copy
 
 pub unbacked_more : (count home : ℕ) (ns : List ℕ) (from i late t w v : ℕ) (r : Quad) → from ≤ i → late ≡ unbacked count home ns from (i - from)
-    → r ≡ quad_at ns i → t ≡ second_of (as_row r) → w ≡ standing_at count home ns t → v ≡ lower (pick (has w r.a) (row_count ns) i) late
+    → r ≡ quad_at ns i → t ≡ second_of (as_row r) → w ≡ standing_at count home ns t → v ≡ min (pick (has w r.a) (row_count ns) i) late
     → v ≡ unbacked count home ns from (i + 1 - from)
 unfolding unbacked quad_at row_at
 unbacked_more count home ns from i late t w v r h e d p q g =
@@ -65,9 +59,11 @@ unbacked_more count home ns from i late t w v r h e d p q g =
     let m : from + (i - from) ≡ i = omega arith in
     rw (n, m, ← e, server_read) (rw (q, p, d) at g)
 
-pub transfer_found : (ns : List ℕ) (late : ℕ) (b : Bool) → ltb late (row_count ns) ≡ b → first (transfer_test ns late) ≡ unless (not b) 17 (suc late)
-unfolding transfer_test
-transfer_found ns late b e = rw e (found b 17 (suc late))
+-- it is not past the last row
+pub unbacked_most : (count home : ℕ) (ns : List ℕ) (from n : ℕ) → unbacked count home ns from n ≤ row_count ns
+unfolding unbacked
+unbacked_most count home ns from zero = omega arith
+unbacked_most count home ns from (suc n) = omega (arith, unbacked_most count home ns from n)
 
 -- ---- holds
 
@@ -77,14 +73,9 @@ pub fails_read : (home : ℕ) (ns : List ℕ) (i t : ℕ) (r : Quad) (b : Bool) 
 unfolding quad_at row_at
 fails_read home ns i t r b d p e = rw server_read (sym (rw (p, d) at e))
 
-pub hold_found : (home : ℕ) (ns : List ℕ) (low i : ℕ) (b : Bool)
-    → b ≡ either (eqb i low) (not (fed home ns (second_of (row_at ns i)) (server_of (row_at ns i)))) → first (hold_test home ns low i) ≡ unless (not b) 17 (suc i)
-unfolding hold_test
-hold_found home ns low i b e = rw (← e) (found b 17 (suc i))
-
 -- holds, then transfers
-pub copy_parts : (count home : ℕ) (ns : List ℕ) (holds uploads low late : ℕ) → holds ≡ position ns (second_key 0) → uploads ≡ position ns (upload_key 0 0)
+pub copy_parts : (count home : ℕ) (ns : List ℕ) (holds uploads low late : ℕ) → holds ≡ position ns (second_key 0) → uploads ≡ first_upload ns 0
     → low ≡ starved count home ns holds (uploads - holds) → late ≡ unbacked count home ns holds (uploads - holds)
     → first (copy_tests count home ns) ≡ otherwise (first (each (hold_test home ns low) holds)) (first (transfer_test ns late))
-unfolding copy_tests first_of first_upload
+unfolding copy_tests first_of
 copy_parts count home ns holds uploads low late p u q r = rw (← p, ← u, ← q, ← r) (first_append (each (hold_test home ns low) holds) (transfer_test ns late))

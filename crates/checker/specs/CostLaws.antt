@@ -1,13 +1,17 @@
 -- Sums over the rows of a list of numbers, row by row, and their bounds for rows that a log allows.
-use Rattle.std.specs.Prelude.{List, [], ◌∷◌, ◌++◌, ◌⊎◌, ◌≡◌, ℕ, zero, suc, ◌+◌, ◌≤◌, ◌<◌}
+use Rattle.std.specs.Prelude.{List, [], ◌∷◌, ◌++◌, ◌⊎◌, ◌≡◌, ℕ, zero, suc, ◌+◌, ◌^◌, ◌≤◌, ◌<◌}
 use Rattle.std.proofs.Common.{inl, inr, arith, add-one}
 use Rattle.base.specs.Choice.{le_or_lt}
 use Rattle.model.specs.Sums.{total}
-use Rattle.model.specs.Schedule.{Row}
+use Rattle.model.specs.Schedule.{Row, length_of, is_transfer, is_upload}
 use Rattle.model.specs.RowForm.{row_at, rows_upto, rows_of}
 use Rattle.model.specs.Checking.{row_count}
 use Rattle.rows.specs.declared.Quad.{Quad}
 use Rattle.rows.specs.Reading.{quad_at, as_row}
+
+-- sums small enough that 64 bits have room for them times prices
+abbrev pub SumsFit : List ℕ → Type 0
+SumsFit ns = (total length_of (rows_of ns) < 2 ^ 40) × (total is_transfer (rows_of ns) < 2 ^ 40) × (total is_upload (rows_of ns) < 2 ^ 40)
 
 -- the total over two lists
 total_append : (f : Row → ℕ) (xs ys : List Row) → total f (xs ++ ys) ≡ total f xs + total f ys

@@ -1,11 +1,9 @@
 -- Conditions of each of some things: the same, up to the first that refuses, and in two parts.
-use Rattle.std.specs.Prelude.{List, ◌++◌, ◌⊎◌, ◌≡◌, refl, ℕ, zero, suc, ◌+◌, ◌≤◌, ◌<◌}
+use Rattle.std.specs.Prelude.{List, ◌++◌, ◌⊎◌, ◌≡◌, refl, ℕ, zero, suc, ◌+◌, ◌≤◌, ◌<◌, Ok, Err}
 use Rattle.std.proofs.Common.{append_assoc, append-nil, inl, inr, sym, ap, ap₂, ◌∙◌, arith}
 use Rattle.base.specs.Choice.{le_or_lt, same_or_not}
 use Rattle.base.specs.declared.Refusal.{Refusal}
-use Rattle.base.specs.declared.Verdict.{Verdict}
-use Rattle.base.specs.declared.Verdict.TheVariants.{Passed, Refused}
-use Rattle.base.specs.Refusals.{Condition, first, each}
+use Rattle.base.specs.Refusals.{Condition, first, each, Verdict}
 use Rattle.base.specs.RefusalLaws.{each_suc, each_refused}
 
 -- they are the same where they are the same for each
@@ -15,27 +13,27 @@ each_same f g zero h = refl
 each_same f g (suc n) h = ap₂ (λ (x y : List Condition). x ++ y) (each_same f g n (λ i l. h i (omega arith))) (h n (omega arith))
 
 -- a refusal stays when more things come
-each_stays : (f : ℕ → List Condition) (k n : ℕ) (r : Refusal) → k ≤ n → first (each f k) ≡ Refused r → first (each f n) ≡ Refused r
+each_stays : (f : ℕ → List Condition) (k n : ℕ) (r : Refusal) → k ≤ n → first (each f k) ≡ Err r → first (each f n) ≡ Err r
 each_stays f k zero r l e = let z : k ≡ 0 = omega arith in rw z at e
 each_stays f k (suc n) r l e = go (same_or_not k (suc n)) (each_stays f k n r)
   where
-    go : (k ≡ suc n) ⊎ (k ≡ suc n → ⊥) → (k ≤ n → first (each f k) ≡ Refused r → first (each f n) ≡ Refused r) → first (each f (suc n)) ≡ Refused r
+    go : (k ≡ suc n) ⊎ (k ≡ suc n → ⊥) → (k ≤ n → first (each f k) ≡ Err r → first (each f n) ≡ Err r) → first (each f (suc n)) ≡ Err r
     go (inl z) rec = rw z at e
     go (inr d) rec = each_suc f n ∙ rw (rec (omega arith) e)
 
 -- so they give one verdict where they are the same up to one that refuses
-pub each_until : (f g : ℕ → List Condition) (n k : ℕ) → ((i : ℕ) → i < n → i ≤ k → f i ≡ g i) → (k < n → (r : Refusal) × (first (f k) ≡ Refused r))
+pub each_until : (f g : ℕ → List Condition) (n k : ℕ) → ((i : ℕ) → i < n → i ≤ k → f i ≡ g i) → (k < n → (r : Refusal) × (first (f k) ≡ Err r))
     → first (each f n) ≡ first (each g n)
 each_until f g n k same stop = go (le_or_lt n k)
   where
     by : (l : k < n) → (v : Verdict) → first (each f k) ≡ v → first (each f n) ≡ first (each g n)
-    by l (Refused r) e =
-        let d : first (each g k) ≡ Refused r = sym (ap first (each_same f g k (λ i m. same i (omega arith) (omega arith)))) ∙ e in
+    by l (Err r) e =
+        let d : first (each g k) ≡ Err r = sym (ap first (each_same f g k (λ i m. same i (omega arith) (omega arith)))) ∙ e in
         each_stays f k n r (omega arith) e ∙ sym (each_stays g k n r (omega arith) d)
-    by l Passed e =
+    by l (Ok _) e =
         let (r, p) = stop l in
-        let d : first (each g k) ≡ Passed = sym (ap first (each_same f g k (λ i m. same i (omega arith) (omega arith)))) ∙ e in
-        let q : first (g k) ≡ Refused r = sym (ap first (same k l (omega arith))) ∙ p in
+        let d : first (each g k) ≡ (Ok tt) = sym (ap first (each_same f g k (λ i m. same i (omega arith) (omega arith)))) ∙ e in
+        let q : first (g k) ≡ Err r = sym (ap first (same k l (omega arith))) ∙ p in
         each_refused f k n r l e p ∙ sym (each_refused g k n r l d q)
 
     go : (n ≤ k) ⊎ (k < n) → first (each f n) ≡ first (each g n)

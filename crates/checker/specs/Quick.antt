@@ -1,5 +1,6 @@
 -- The servers where a copy stands at a second, and the conditions 14 to 18 by them, as the code comes by them. Assumes nothing.
-use Rattle.std.specs.Prelude.{Bool, not, List, [], ◌∷◌, ◌++◌, ℕ, zero, suc, pred, ◌+◌, ◌-◌, ◌*◌, ◌%◌, ltb, eqb, length}
+use Rattle.std.specs.Prelude.{Bool, not, List, [], ◌∷◌, ◌++◌, ℕ, zero, suc, pred, ◌+◌, ◌-◌, ◌*◌, ◌%◌, min, ltb, eqb, length}
+use Rattle.base.specs.declared.reasons.Reason.TheVariants as reason
 use Rattle.base.specs.Bytes.{le16, le32}
 use Rattle.base.specs.Choice.{pick, both, either}
 use Rattle.base.specs.Refusals.{Condition, refuse, each}
@@ -84,32 +85,28 @@ unfed ns w τ x =
     let p = position ns (hold_key x τ) in
     pick (has w x) (row_count ns) (pick (starts τ x (row_at ns p)) p (row_count ns))
 
--- the lower of two numbers
-unfoldable pub lower : ℕ → ℕ → ℕ
-lower a b = pick (ltb a b) a b
-
 -- the first hold to which the transfers among the n rows from one on bring no copy
 unfoldable pub starved : ℕ → ℕ → List ℕ → ℕ → ℕ → ℕ
 starved count home ns from zero = row_count ns
 starved count home ns from (suc n) =
     let r = row_at ns (from + n) in
-    lower (unfed ns (standing_at count home ns (second_of r)) (second_of r) (target_of r)) (starved count home ns from n)
+    min (unfed ns (standing_at count home ns (second_of r)) (second_of r) (target_of r)) (starved count home ns from n)
 
 -- the first of the n transfers from one on whose source is not in the set at its second; past the last row where there is none
 unfoldable pub unbacked : ℕ → ℕ → List ℕ → ℕ → ℕ → ℕ
 unbacked count home ns from zero = row_count ns
 unbacked count home ns from (suc n) =
     let r = row_at ns (from + n) in
-    lower (pick (has (standing_at count home ns (second_of r)) (server_of r)) (row_count ns) (from + n)) (unbacked count home ns from n)
+    min (pick (has (standing_at count home ns (second_of r)) (server_of r)) (row_count ns) (from + n)) (unbacked count home ns from n)
 
 -- hold i is the first of those, or no copy may come to its start
 unfoldable pub hold_test : ℕ → List ℕ → ℕ → ℕ → List Condition
 hold_test home ns low i =
-    refuse 17 (suc i) (either (eqb i low) (not (fed home ns (second_of (row_at ns i)) (server_of (row_at ns i))))) ∷ []
+    refuse reason.NoCopy (suc i) (either (eqb i low) (not (fed home ns (second_of (row_at ns i)) (server_of (row_at ns i))))) ∷ []
 
 -- the first transfer at fault
 unfoldable pub transfer_test : List ℕ → ℕ → List Condition
-transfer_test ns late = refuse 17 (suc late) (ltb late (row_count ns)) ∷ []
+transfer_test ns late = refuse reason.NoCopy (suc late) (ltb late (row_count ns)) ∷ []
 
 -- each hold, then the transfers; an upload asks for no copy
 unfoldable pub copy_tests : ℕ → ℕ → List ℕ → List Condition
@@ -129,11 +126,11 @@ unfoldable pub served : List ℕ → List ℕ → ℕ → Bool
 served log ns i = stands_at (server_count_of log) (home_of log) ns (le32 log (40 + 6 * i)) (le16 log (44 + 6 * i))
 
 unfoldable pub serve_test : List ℕ → List ℕ → ℕ → List Condition
-serve_test log ns i = refuse 18 (suc i) (not (served log ns i)) ∷ []
+serve_test log ns i = refuse reason.Unserved (suc i) (not (served log ns i)) ∷ []
 
 -- 14, then each row's 15 and 16, each row's 17, each request's 18
 unfoldable pub schedule_tests : Bool → List ℕ → List ℕ → List Condition
 schedule_tests given log ns =
-    refuse 14 0 (not (eqb (length ns % 4) 0))
+    refuse reason.PartialRow 0 (not (eqb (length ns % 4) 0))
     ∷ (each (row_tests given (server_count_of log) (request_count log) ((requests_in log).time (request_count log)) ns) (row_count ns)
     ++ (copy_tests (server_count_of log) (home_of log) ns ++ each (serve_test log ns) (request_count log)))

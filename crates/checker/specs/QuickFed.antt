@@ -1,6 +1,7 @@
 -- For well-formed rows the first hold with no copy at its start is the first to which no copy may come or which is starved.
 use Rattle.std.proofs.Math.Bool.{Bool}
-use Rattle.std.specs.Prelude.{true, false, not, ◌⊎◌, ◌≢◌, ◌≡◌, eqb}
+use Rattle.base.specs.declared.reasons.Reason.TheVariants as reason
+use Rattle.std.specs.Prelude.{true, false, not, ◌⊎◌, ◌≢◌, ◌≡◌, eqb, Err}
 use mathlib.Core.List.{List, [], ◌∷◌}
 use Rattle.std.proofs.Common.{inl, inr, sym, ap, ◌∙◌}
 use Rattle.std.proofs.Math.Path.{refl}
@@ -9,7 +10,6 @@ use Prim.Native.Nat.{ℕ, suc, ◌+◌, ◌-◌, ◌≤◌, ◌<◌}
 use borrow.Author.Tests.{eqb-true, eq-eqb, ne_eqb, lt-ltb, le-leb}
 use Rattle.base.specs.Choice.{pick, both, either, same_or_not, true_or_false, not_both}
 use Rattle.base.specs.Sets.{has}
-use Rattle.base.specs.declared.Verdict.TheVariants.{Refused}
 use Rattle.base.specs.Refusals.{refuse, first}
 use Rattle.base.specs.RefusalLaws.{first_met}
 use Rattle.base.specs.ChoiceLaws.{both_true, either_true}
@@ -146,10 +146,10 @@ module _ (count last : ℕ) (ns : List ℕ) (s : Shaped count last ns) (home : �
       go (inr t) = moved (either_true (any_below (number_of ns a) aim) (loaded ns a x) t)
 
   -- 17 for the first starved hold
-  pub low_refused : first (hold_test home ns low low) ≡ Refused (record { number = 17; place = suc low })
+  pub low_refused : first (hold_test home ns low low) ≡ Err (record { reason = reason.NoCopy; place = suc low })
   unfolding hold_test
   low_refused =
-      first_met (refuse 17 (suc low) (either (eqb low low) (not (fed home ns (second_of (row_at ns low)) (server_of (row_at ns low)))))) []
+      first_met (refuse reason.NoCopy (suc low) (either (eqb low low) (not (fed home ns (second_of (row_at ns low)) (server_of (row_at ns low)))))) []
       (rw (eq-eqb low low refl))
 
   module _ (q : Requests) (z : q.server 0 ≡ home) where
@@ -158,7 +158,7 @@ module _ (count last : ℕ) (ns : List ℕ) (s : Shaped count last ns) (home : �
     unfolding hold_test copy_condition backed second_of server_of
     same_hold i l h =
         let (x, a, b, e) = hold_row count last ns s home inside i l in
-        rw (z, e) (ap (λ (t : Bool). refuse 17 (suc i) t ∷ []) (go x a b e (same_or_not i low)))
+        rw (z, e) (ap (λ (t : Bool). refuse reason.NoCopy (suc i) t ∷ []) (go x a b e (same_or_not i low)))
       where
         m : i < row_count ns
         m = omega (arith, first_within count last ns s home inside 0)

@@ -3,9 +3,9 @@ use Rattle.std.specs.Prelude.{true, false, ◌⊎◌, ◌≢◌, ◌≡◌, eqb}
 use mathlib.Core.List.{List, Memᴰ}
 use Rattle.std.proofs.Math.Logic.{inl, inr}
 use Rattle.std.proofs.Math.Path.{refl, ap}
-use Rattle.std.proofs.Common.{◌∙◌, eqb-true, lt-ltb, le-ltb}
+use Rattle.std.proofs.Common.{◌∙◌, eqb-true}
 use native.Mathlib.Omega.{arith}
-use Prim.Native.Nat.{ℕ, zero, suc, ◌+◌, ◌*◌, ◌≤◌, ◌<◌}
+use Prim.Native.Nat.{ℕ, zero, suc, ◌+◌, ◌*◌, min, ◌≤◌, ◌<◌}
 use Rattle.base.specs.Choice.{le_or_lt, same_or_not, true_or_false, not_both}
 use Rattle.base.specs.Sets.{has}
 use Rattle.base.specs.ChoiceLaws.{both_true}
@@ -21,26 +21,14 @@ use Rattle.rows.specs.AnyLaws.{any_is}
 use Rattle.checker.specs.Search.{hold_key, second_key, upload_key, key, position}
 use Rattle.checker.specs.KeyLaws.{Shaped, end_key, keys_rise, keys_up}
 use Rattle.checker.specs.SearchLaws.{position_most, before_position, from_position, position_up, own_position}
-use Rattle.checker.specs.Quick.{first_of, number_of, first_upload, standing_at, unfed, lower, starved}
+use Rattle.checker.specs.Quick.{first_of, number_of, first_upload, standing_at, unfed, starved}
 use Rattle.checker.specs.QuickReach.{Covering, covering}
 use Rattle.checker.specs.QuickStanding.{standing_agrees}
 
--- ---- the lower of two numbers, and the lowest of many
+-- ---- the lowest of many numbers
 
-lower_left : (a b : ℕ) → lower a b ≤ a
-unfolding lower
-lower_left a b = elim (le_or_lt b a) [ inl l ↦ rw (le-ltb a b l) l | inr l ↦ rw (lt-ltb a b l) (omega arith) ]
-
-lower_right : (a b : ℕ) → lower a b ≤ b
-unfolding lower
-lower_right a b = elim (le_or_lt b a) [ inl l ↦ rw (le-ltb a b l) (omega arith) | inr l ↦ rw (lt-ltb a b l) (omega arith) ]
-
-pub lower_within : (a b c : ℕ) → b ≤ c → lower a b ≤ c
-lower_within a b c l = omega (arith, lower_right a b)
-
-lower_one : (a b : ℕ) → (lower a b ≡ a) ⊎ (lower a b ≡ b)
-unfolding lower
-lower_one a b = elim (le_or_lt b a) [ inl l ↦ inr (rw (le-ltb a b l)) | inr l ↦ inl (rw (lt-ltb a b l)) ]
+min_one : (a b : ℕ) → (min a b ≡ a) ⊎ (min a b ≡ b)
+min_one a b = elim (le_or_lt a b) [ inl l ↦ inl (omega (arith, l)) | inr l ↦ inr (omega (arith, l)) ]
 
 module _ (count home : ℕ) (ns : List ℕ) (from : ℕ) where
   -- what row from + j leaves without a copy
@@ -54,18 +42,18 @@ module _ (count home : ℕ) (ns : List ℕ) (from : ℕ) where
   starved_first zero j l = absurd (omega arith)
   starved_first (suc n) j l = go (same_or_not j n) (starved_first n j)
     where
-      go : (j ≡ n) ⊎ (j ≢ n) → (j < n → starved count home ns from n ≤ unfed_by j) → lower (unfed_by n) (starved count home ns from n) ≤ unfed_by j
-      go (inl e) r = rw e (lower_left (unfed_by n) (starved count home ns from n))
-      go (inr d) r = omega (arith, r (omega arith), lower_right (unfed_by n) (starved count home ns from n))
+      go : (j ≡ n) ⊎ (j ≢ n) → (j < n → starved count home ns from n ≤ unfed_by j) → min (unfed_by n) (starved count home ns from n) ≤ unfed_by j
+      go (inl e) r = rw e (omega arith)
+      go (inr d) r = omega (arith, r (omega arith))
 
   pub starved_one : (n : ℕ) → starved count home ns from n < row_count ns → (j : ℕ) × (j < n) × (starved count home ns from n ≡ unfed_by j)
   unfolding starved
   starved_one zero l = absurd (omega arith)
-  starved_one (suc n) l = go (lower_one (unfed_by n) (starved count home ns from n)) (starved_one n)
+  starved_one (suc n) l = go (min_one (unfed_by n) (starved count home ns from n)) (starved_one n)
     where
-      go : (lower (unfed_by n) (starved count home ns from n) ≡ unfed_by n) ⊎ (lower (unfed_by n) (starved count home ns from n) ≡ starved count home ns from n)
+      go : (min (unfed_by n) (starved count home ns from n) ≡ unfed_by n) ⊎ (min (unfed_by n) (starved count home ns from n) ≡ starved count home ns from n)
           → (starved count home ns from n < row_count ns → (j : ℕ) × (j < n) × (starved count home ns from n ≡ unfed_by j))
-          → (j : ℕ) × (j < suc n) × (lower (unfed_by n) (starved count home ns from n) ≡ unfed_by j)
+          → (j : ℕ) × (j < suc n) × (min (unfed_by n) (starved count home ns from n) ≡ unfed_by j)
       go (inl e) r = (n, omega arith, e)
       go (inr e) r = let (j, h, d) = r (omega arith) in (j, omega arith, e ∙ d)
 

@@ -1,8 +1,8 @@
 -- The conditions 14 to 18 part by part, as the code comes by them.
 use Rattle.std.specs.Prelude.{Bool, not, List, [], ◌∷◌, ◌++◌, ◌≡◌, ℕ, ◌%◌, eqb, length}
+use Rattle.base.specs.declared.reasons.Reason.TheVariants as reason
 use Rattle.std.proofs.Common.{sym, ap, ◌∙◌}
-use Rattle.base.specs.declared.Verdict.{Verdict}
-use Rattle.base.specs.Refusals.{Condition, refuse, first, each, otherwise}
+use Rattle.base.specs.Refusals.{Condition, refuse, first, each, otherwise, Verdict}
 use Rattle.base.specs.RefusalLaws.{first_append}
 use Rattle.request_log.specs.Fields.{server_count_of, home_of, request_count, seconds_of}
 use Rattle.request_log.specs.Conditions.{before}
@@ -14,7 +14,7 @@ use Rattle.checker.specs.Quick.{copy_tests, serve_test, schedule_tests}
 
 -- 14
 abbrev pub whole_test : List ℕ → List Condition
-whole_test ns = refuse 14 0 (not (eqb (length ns % 4) 0)) ∷ []
+whole_test ns = refuse reason.PartialRow 0 (not (eqb (length ns % 4) 0)) ∷ []
 
 -- 15 and 16 of each row, 17 of each row, 18 of each request
 abbrev pub row_part : Bool → List ℕ → List ℕ → List Condition

@@ -1,5 +1,6 @@
 -- For a sound log the conditions 14 to 18 as the code comes by them refuse what the schedule's conditions refuse.
-use Rattle.std.specs.Prelude.{Bool, true, not, ◌⊎◌, ◌≡◌, eqb, get_or}
+use Rattle.std.specs.Prelude.{Bool, true, not, ◌⊎◌, ◌≡◌, eqb, get_or, Ok, Err}
+use Rattle.base.specs.declared.reasons.Reason.TheVariants as reason
 use Rattle.std.proofs.Math.Bool.{false}
 use mathlib.Core.List.{List, ◌++◌, Memᴰ}
 use Rattle.std.proofs.Common.{inl, inr, ◌∙◌}
@@ -7,11 +8,9 @@ use Rattle.std.proofs.Math.Path.{refl, sym, ap, ap₂}
 use native.Mathlib.Omega.{arith}
 use Prim.Native.Nat.{ℕ, zero, suc, ◌+◌, ◌-◌, ◌*◌, ◌≤◌, ◌<◌}
 use borrow.Author.Tests.{lt-ltb, not-false}
-use Rattle.base.specs.declared.Verdict.{Verdict}
-use Rattle.base.specs.declared.Verdict.TheVariants.{Passed, Refused}
 use Rattle.base.specs.Choice.{either, true_or_false}
 use Rattle.base.specs.Sets.{has}
-use Rattle.base.specs.Refusals.{Condition, first, each, nth, otherwise}
+use Rattle.base.specs.Refusals.{Condition, first, each, nth, otherwise, Verdict}
 use Rattle.base.specs.RefusalLaws.{first_append, first_passed, each_passed}
 use Rattle.request_log.specs.Fields.{server_count_of, home_of, request_count}
 use Rattle.request_log.specs.Ranges.{Sound}
@@ -43,14 +42,14 @@ use Rattle.checker.specs.QuickTransfers.{copy_test, one_by_one}
 use Rattle.checker.specs.QuickParts.{whole_test, row_part, copy_part, serve_part, four_parts, schedule_parts}
 
 -- a verdict after which nothing is refused
-last_passed : (v w : Verdict) → w ≡ Passed → otherwise v w ≡ v
-last_passed Passed w e = e
-last_passed (Refused r) w e = refl
+last_passed : (v w : Verdict) → w ≡ Ok tt → otherwise v w ≡ v
+last_passed (Ok _) w e = e
+last_passed (Err r) w e = refl
 
 -- 15 asks of the rates only whether an upload price is given
 offers_same : (p : Rates) (kind last : ℕ) → kind_fits (offering (offers p)) kind last ≡ kind_fits p kind last
 unfolding kind_fits offering
-offers_same p kind last = rw (given_some (offers p) 0)
+offers_same p kind last = rw (given_some (offers p))
 
 module _ (count last : ℕ) (ns : List ℕ) (s : Shaped count last ns) (home : ℕ) (inside : home < count) where
   -- at any server a copy stands where a hold keeps it or the set has the server
@@ -89,7 +88,7 @@ module _ (count last : ℕ) (ns : List ℕ) (s : Shaped count last ns) (home : �
         first_append (each (hold_test home ns first_low) holds) (transfer_test ns first_late)
         ∙ ap₂ otherwise
         (each_until (hold_test home ns first_low) (copy_condition count q ns) holds first_low (same_hold count last ns s home inside q z)
-        (λ l. (record { number = 17; place = suc first_low }, low_refused count last ns s home inside)))
+        (λ l. (record { reason = reason.NoCopy; place = suc first_low }, low_refused count last ns s home inside)))
         (sym (one_by_one count home ns holds rest most)
         ∙ ap first (each_same (λ j. copy_test count home ns (holds + j)) (λ j. copy_condition count q ns (holds + j)) rest
         (λ j l. same_transfer (holds + j) (omega arith) (omega arith))))
@@ -97,7 +96,7 @@ module _ (count last : ℕ) (ns : List ℕ) (s : Shaped count last ns) (home : �
         ∙ ap first (sym (each_split (copy_condition count q ns) holds rest) ∙ ap (each (copy_condition count q ns)) all)
 
     -- an upload asks for no copy
-    upload_passed : (i : ℕ) → first_upload ns 0 ≤ i → i < row_count ns → first (copy_condition count q ns i) ≡ Passed
+    upload_passed : (i : ℕ) → first_upload ns 0 ≤ i → i < row_count ns → first (copy_condition count q ns i) ≡ Ok tt
     unfolding copy_condition backed first first_upload
     upload_passed i l h =
         let (x, τ, e, b) = upload_row count last ns s i h (from_position ns (keys_up count last ns s) (upload_key 0 0) i l h) in
@@ -134,7 +133,7 @@ module _ (log ns : List ℕ) (a : Sound log) where
   last_early (suc k) l = omega (arith, (a.in_order k l).second_most)
 
   -- where 15 and 16 pass the rows are well formed
-  pub shaped : (given : Bool) → first (row_part given log ns) ≡ Passed → Shaped count (q.time n) ns
+  pub shaped : (given : Bool) → first (row_part given log ns) ≡ Ok tt → Shaped count (q.time n) ns
   unfolding row_tests misplaced
   shaped given e = record {
     few = a.setup.servers_most;
@@ -153,7 +152,7 @@ module _ (log ns : List ℕ) (a : Sound log) where
           not-false ok (either_false (eqb n 0) (not ok) (either_false (not kind) (either (eqb n 0) (not ok)) (test i l 0)).1).1
 
   -- and in order
-  pub in_order : (given : Bool) → first (row_part given log ns) ≡ Passed → InOrder ns
+  pub in_order : (given : Bool) → first (row_part given log ns) ≡ Ok tt → InOrder ns
   in_order given e = keys_up count (q.time n) ns (shaped given e)
 
   -- then 17 and 18 are the same
@@ -196,5 +195,5 @@ module _ (log ns : List ℕ) (a : Sound log) where
         go : (v : Verdict) → first rows ≡ v
             → otherwise (first (whole_test ns)) (otherwise (first rows) (otherwise (first (copy_part log ns)) (first (serve_part log ns))))
             ≡ otherwise (first (whole_test ns)) (otherwise (first rows) (otherwise (first copies) (first serves)))
-        go Passed e = rw (copies_same (shaped (offers p) e), serves_same (shaped (offers p) e))
-        go (Refused r) e = rw e
+        go (Ok _) e = rw (copies_same (shaped (offers p) e), serves_same (shaped (offers p) e))
+        go (Err r) e = rw e

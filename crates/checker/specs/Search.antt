@@ -1,5 +1,6 @@
 -- Rows by their place in the order: a number that rises from row to row, and the first row from a number on.
 use Rattle.std.specs.Prelude.{Bool, List, ℕ, ◌+◌, ◌*◌, ◌<◌, leb}
+use Rattle.std.proofs.Props.{props}
 use Rattle.base.specs.Sets.{lowest}
 use Rattle.model.specs.Schedule.{Row, hold, move, transfer, upload}
 use Rattle.model.specs.RowForm.{row_at}
@@ -34,3 +35,8 @@ position ns k = lowest (row_count ns) (from_on ns k)
 -- each row is at a higher place than every one before it
 unfoldable pub InOrder : List ℕ → Type 0
 InOrder ns = (i j : ℕ) → i < j → j < row_count ns → key (row_at ns i) < key (row_at ns j)
+
+-- there is one way at most that they are
+pub in_order-prop : (ns : List ℕ) → IsProp (InOrder ns)
+unfolding InOrder
+in_order-prop ns = Prim.hlevel props

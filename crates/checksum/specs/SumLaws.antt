@@ -1,6 +1,7 @@
 -- The sum over a log's two parts.
-use Rattle.std.specs.Prelude.{◌≡◌, ℕ, suc, ◌+◌, ◌*◌, ◌/◌, ◌%◌, ◌^◌, ◌<◌, ◌≤◌, List, [], ◌∷◌, ◌++◌, length, take, drop, slice_index, refl}
-use Rattle.std.proofs.Common.{sym, ap, ◌∙◌, arith, take-append-drop, drop_of_length-le, take_all, drop-cons}
+use Rattle.std.specs.Prelude.{◌≡◌, ℕ, zero, suc, ◌+◌, ◌*◌, ◌/◌, ◌%◌, ◌^◌, ◌<◌, ◌≤◌, List, [], ◌∷◌, ◌++◌, length, take, drop, get_or, slice_index, refl}
+use Rattle.std.proofs.Common.{sym, ap, ◌∙◌, arith, drop_of_length-le, take_all, drop-cons, get_or-take, get_or-drop, drop-drop}
+use Rattle.std.specs.Simd.{first_chunks}
 use Rattle.std.proofs.Math.Nat.{add-mul-mod_self_right}
 use Rattle.checksum.specs.Sum.{sum_from, sum_of}
 
@@ -10,10 +11,7 @@ unfolding sum_from
 sum_from_append s [] b = refl
 sum_from_append s (x ∷ a) b = sum_from_append ((31 * s + x) % 2 ^ 32) a b
 
--- some bytes and the rest
-pub sum_cut : (s w : ℕ) (bytes : List ℕ) → sum_from s bytes ≡ sum_from (sum_from s (take w bytes)) (drop w bytes)
-sum_cut s w bytes = ap (sum_from s) (sym (take-append-drop w bytes)) ∙ sum_from_append s (take w bytes) (drop w bytes)
-
+-- the two parts of a log
 pub sum_parts : (log : List ℕ) → sum_of log ≡ sum_from (sum_from 0 (take 20 log)) (drop 24 log)
 unfolding sum_of
 sum_parts log = sum_from_append 0 (take 20 log) (drop 24 log)
@@ -47,3 +45,22 @@ four_on s bytes i h =
     let at : (k j : ℕ) → j ≡ suc k → k < length bytes → drop k bytes ≡ slice_index bytes k ∷ drop j bytes = λ k j e small. rw e (drop-cons bytes k 0 small) in
     rw (at i (i + 1) (omega arith) (omega arith), at (i + 1) (i + 2) (omega arith) (omega arith), at (i + 2) (i + 3) (omega arith) (omega arith), at (i + 3) (i + 4) (omega arith) (omega arith))
     (four_steps s _ _ _ _ _)
+
+-- a group of four where it stands
+group_at : (i k : ℕ) (bytes d : List ℕ) → i < k → get_or (first_chunks 4 k bytes) i d ≡ take 4 (drop (i * 4) bytes)
+group_at i zero bytes d h = absurd (omega arith)
+group_at zero (suc k) bytes d h = refl
+group_at (suc i) (suc k) bytes d h =
+    let e : suc i * 4 ≡ 4 + i * 4 = omega arith in
+    rw e (group_at i k (drop 4 bytes) d (omega arith) ∙ ap (take 4) (drop-drop (i * 4) 4 bytes))
+
+-- the groups from the i-th on: its four bytes, then the others
+pub group_on : (s : ℕ) (bytes : List ℕ) (groups : List (List ℕ)) (i : ℕ) → groups ≡ first_chunks 4 (length bytes / 4) bytes → i < length bytes / 4 →
+    sum_from ((923521 * s + (29791 * get_or (get_or groups i []) 0 0 + 961 * get_or (get_or groups i []) 1 0 + 31 * get_or (get_or groups i []) 2 0 + get_or (get_or groups i []) 3 0)) % 2 ^ 32) (drop ((i + 1) * 4) bytes)
+    ≡ sum_from s (drop (i * 4) bytes)
+group_on s bytes groups i e h =
+    let at : (j k : ℕ) → k ≡ i * 4 + j → j < 4 → get_or (get_or groups i []) j 0 ≡ slice_index bytes k =
+    λ j k f l. rw (e, group_at i (length bytes / 4) bytes [] h, f) (get_or-take 4 (drop (i * 4) bytes) j 0 l ∙ get_or-drop (i * 4) bytes j 0) in
+    let next : (i + 1) * 4 ≡ i * 4 + 4 = omega arith in
+    rw (at 0 (i * 4) (omega arith) (omega arith), at 1 (i * 4 + 1) refl (omega arith), at 2 (i * 4 + 2) refl (omega arith), at 3 (i * 4 + 3) refl (omega arith), next)
+    (sym (four_on s bytes (i * 4) (omega arith)))

@@ -2,11 +2,11 @@
 ghost use Rattle.std.specs.Prelude.{◌≡◌};
 ghost use Rattle.prices.specs.Offer.{built_in_offer, file_offer};
 ghost use Rattle.online.specs.Answers.{started, scanned, running_answer, closed_answer};
-ghost use Rattle.exports.specs.Answers.{of_start, of_scan, running_of, of_running, of_close, start_answer, scan_answer, close_answer};
+ghost use Rattle.exports.specs.Answers.{running_of, of_number, start_answer, scan_answer, close_answer};
 
-use crate::{Answer, accepted, refused};
-use base::widths::u64_from_u16;
-use online::{Cache, CloseOutcome, RunningCost, ScanOutcome, StartOutcome};
+use crate::Answer;
+use base::Refusal;
+use online::{Cache, Closed, Scanned, Service, Started};
 use request_log::Header;
 
 // A file's id, as a scan brings it.
@@ -32,12 +32,49 @@ pub struct ScanAnswer {
     pub running: u64,
 }
 
-fn of_start(outcome: StartOutcome) -> Answer
-    ensures { result ≡ of_start outcome }
+impl From<Started> for CacheAnswer {
+    ghost from_gives = { λ started answer. answer ≡ start_answer started };
+
+    fn from(started: Started) -> CacheAnswer {
+        CacheAnswer {
+            cache: started.cache,
+            answer: Answer::from(started.outcome),
+        }
+    }
+}
+
+impl From<Closed> for CacheAnswer {
+    ghost from_gives = { λ closed answer. answer ≡ close_answer closed };
+
+    fn from(closed: Closed) -> CacheAnswer {
+        CacheAnswer {
+            cache: closed.cache,
+            answer: Answer::from(closed.outcome),
+        }
+    }
+}
+
+// The running cost after a scan.
+fn running_of(outcome: Result<Service, Refusal>) -> u64
+    ensures { result ≡ running_of outcome }
 {
     match outcome {
-        StartOutcome::Ready => accepted(0, 0),
-        StartOutcome::Refused(r) => refused(r),
+        Ok(Service::Kept { cost }) => cost,
+        Ok(Service::Sent { cost, .. }) => cost,
+        Err(_) => 0,
+    }
+}
+
+impl From<Scanned> for ScanAnswer {
+    ghost from_gives = { λ scanned answer. answer ≡ scan_answer scanned };
+
+    fn from(scanned: Scanned) -> ScanAnswer {
+        let outcome = scanned.outcome;
+        ScanAnswer {
+            cache: scanned.cache,
+            answer: Answer::from(outcome),
+            running: running_of(outcome),
+        }
     }
 }
 
@@ -45,88 +82,30 @@ fn of_start(outcome: StartOutcome) -> Answer
 pub extern "C" fn caching_start(header: Header) -> CacheAnswer
     ensures { result ≡ start_answer (started built_in_offer header) }
 {
-    let started = Cache::start(header);
-    let cache = started.cache;
-    let outcome = started.outcome;
-    CacheAnswer {
-        cache,
-        answer: of_start(outcome),
-    }
+    CacheAnswer::from(Cache::start(header))
 }
 
 #[unsafe(no_mangle)]
 pub extern "C" fn caching_start_with(prices: &[u8], header: Header) -> CacheAnswer
     ensures { result ≡ start_answer (started (file_offer prices.now) header) }
 {
-    let started = Cache::start_with(prices, header);
-    let cache = started.cache;
-    let outcome = started.outcome;
-    CacheAnswer {
-        cache,
-        answer: of_start(outcome),
-    }
+    CacheAnswer::from(Cache::start_with(prices, header))
 }
 
-// Value 0: kept; value 1: sent, and the source.
-fn of_scan(outcome: ScanOutcome) -> Answer
-    ensures { result ≡ of_scan outcome }
-{
-    match outcome {
-        ScanOutcome::Kept { cost: _ } => accepted(0, 0),
-        ScanOutcome::Sent { source, cost: _ } => accepted(1, u64_from_u16(source)),
-        ScanOutcome::Refused(r) => refused(r),
-    }
-}
-
-fn running_of(outcome: ScanOutcome) -> u64
-    ensures { result ≡ running_of outcome }
-{
-    match outcome {
-        ScanOutcome::Kept { cost } => cost,
-        ScanOutcome::Sent { source: _, cost } => cost,
-        ScanOutcome::Refused(_) => 0,
-    }
-}
-
+// The answer's value is 0 for kept; 1 for sent, and the source.
 #[unsafe(no_mangle)]
 pub extern "C" fn caching_scan(cache: Cache, id: Id, second: u32, server: u16) -> ScanAnswer
     ensures { result ≡ scan_answer (scanned cache id.bytes second server) }
 {
-    let bytes = id.bytes;
-    let scanned = cache.scan(bytes, second, server);
-    let next = scanned.cache;
-    let outcome = scanned.outcome;
-    ScanAnswer {
-        cache: next,
-        answer: of_scan(outcome),
-        running: running_of(outcome),
-    }
-}
-
-fn of_running(outcome: RunningCost) -> Answer
-    ensures { result ≡ of_running outcome }
-{
-    match outcome {
-        RunningCost::Cost(cost) => accepted(cost, 0),
-        RunningCost::Refused(r) => refused(r),
-    }
+    ScanAnswer::from(cache.scan(id.bytes, second, server))
 }
 
 // The answer's value is the running cost.
 #[unsafe(no_mangle)]
 pub extern "C" fn caching_running(cache: Cache) -> Answer
-    ensures { result ≡ of_running (running_answer cache) }
+    ensures { result ≡ of_number (running_answer cache) }
 {
-    of_running(cache.running())
-}
-
-fn of_close(outcome: CloseOutcome) -> Answer
-    ensures { result ≡ of_close outcome }
-{
-    match outcome {
-        CloseOutcome::Cost(cost) => accepted(cost, 0),
-        CloseOutcome::Refused(r) => refused(r),
-    }
+    Answer::from(cache.running())
 }
 
 // The answer's value is the closing cost.
@@ -134,11 +113,5 @@ fn of_close(outcome: CloseOutcome) -> Answer
 pub extern "C" fn caching_close(cache: Cache) -> CacheAnswer
     ensures { result ≡ close_answer (closed_answer cache) }
 {
-    let closed = cache.close();
-    let next = closed.cache;
-    let outcome = closed.outcome;
-    CacheAnswer {
-        cache: next,
-        answer: of_close(outcome),
-    }
+    CacheAnswer::from(cache.close())
 }

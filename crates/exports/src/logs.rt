@@ -5,11 +5,10 @@ ghost use Rattle.prices.specs.Offer.{built_in_offer, file_offer};
 ghost use Rattle.checksum.specs.Sum.{sum_of};
 ghost use Rattle.request_log.specs.Contents.{contents};
 ghost use Rattle.request_log.specs.Answers.{read_verdict, decoded, seconds_left, servers_left, write_verdict, written, log_left};
-ghost use Rattle.exports.specs.Answers.{of_read, of_write, read_answer};
+ghost use Rattle.exports.specs.Answers.{of_number, read_answer};
 
-use crate::{Answer, accepted, refused};
-use base::widths::u64_from_u16;
-use request_log::{Header, ReadOutcome, Written};
+use crate::Answer;
+use request_log::{Decoded, Header};
 
 // The reader's answer: its value is the number of requests.
 #[repr(C)]
@@ -19,20 +18,22 @@ pub struct ReadAnswer {
     pub answer: Answer,
 }
 
+impl From<Decoded> for ReadAnswer {
+    ghost from_gives = { λ decoded answer. answer ≡ read_answer decoded };
+
+    fn from(decoded: Decoded) -> ReadAnswer {
+        ReadAnswer {
+            header: decoded.header,
+            answer: Answer::from(decoded.outcome.map(u64::from)),
+        }
+    }
+}
+
 #[unsafe(no_mangle)]
 pub extern "C" fn caching_sum(log: &[u8]) -> u32
     ensures { result ≡ sum_of log.now }
 {
     checksum::sum(log)
-}
-
-fn of_read(outcome: ReadOutcome) -> Answer
-    ensures { result ≡ of_read outcome }
-{
-    match outcome {
-        ReadOutcome::Requests(n) => accepted(u64_from_u16(n), 0),
-        ReadOutcome::Refused(r) => refused(r),
-    }
 }
 
 #[unsafe(no_mangle)]
@@ -41,13 +42,7 @@ pub extern "C" fn caching_read(log: &[u8], seconds: &mut [u32], servers: &mut [u
     ensures seconds_after { seconds.new ≡ seconds_left built_in log.now seconds.old servers.old }
     ensures servers_after { servers.new ≡ servers_left built_in log.now seconds.old servers.old }
 {
-    let d = request_log::read(log, seconds, servers);
-    let header = d.header;
-    let outcome = d.outcome;
-    ReadAnswer {
-        header,
-        answer: of_read(outcome),
-    }
+    ReadAnswer::from(request_log::read(log, seconds, servers))
 }
 
 #[unsafe(no_mangle)]
@@ -61,22 +56,7 @@ pub extern "C" fn caching_read_with(
     ensures seconds_after { seconds.new ≡ seconds_left (price_file prices.now) log.now seconds.old servers.old }
     ensures servers_after { servers.new ≡ servers_left (price_file prices.now) log.now seconds.old servers.old }
 {
-    let d = request_log::read_with(prices, log, seconds, servers);
-    let header = d.header;
-    let outcome = d.outcome;
-    ReadAnswer {
-        header,
-        answer: of_read(outcome),
-    }
-}
-
-fn of_write(outcome: Written) -> Answer
-    ensures { result ≡ of_write outcome }
-{
-    match outcome {
-        Written::Length(n) => accepted(n, 0),
-        Written::Refused(r) => refused(r),
-    }
+    ReadAnswer::from(request_log::read_with(prices, log, seconds, servers))
 }
 
 // The answer's value is the log's length.
@@ -87,10 +67,10 @@ pub extern "C" fn caching_write(
     servers: &[u16],
     log: &mut [u8],
 ) -> Answer
-    ensures value { result ≡ of_write (written (write_verdict built_in_offer (contents header seconds.now servers.now) (length log.old)) (contents header seconds.now servers.now)) }
+    ensures value { result ≡ of_number (written (write_verdict built_in_offer (contents header seconds.now servers.now) (length log.old)) (contents header seconds.now servers.now)) }
     ensures log_after { log.new ≡ log_left built_in_offer (contents header seconds.now servers.now) log.old }
 {
-    of_write(writer::write(header, seconds, servers, log))
+    Answer::from(writer::write(header, seconds, servers, log))
 }
 
 // The answer's value is the log's length.
@@ -102,8 +82,8 @@ pub extern "C" fn caching_write_with(
     servers: &[u16],
     log: &mut [u8],
 ) -> Answer
-    ensures value { result ≡ of_write (written (write_verdict (file_offer prices.now) (contents header seconds.now servers.now) (length log.old)) (contents header seconds.now servers.now)) }
+    ensures value { result ≡ of_number (written (write_verdict (file_offer prices.now) (contents header seconds.now servers.now) (length log.old)) (contents header seconds.now servers.now)) }
     ensures log_after { log.new ≡ log_left (file_offer prices.now) (contents header seconds.now servers.now) log.old }
 {
-    of_write(writer::write_with(prices, header, seconds, servers, log))
+    Answer::from(writer::write_with(prices, header, seconds, servers, log))
 }

@@ -5,45 +5,32 @@ ghost use Rattle.prices.specs.Tariff.{built_in, price_file};
 ghost use Rattle.checker.specs.Answers.{check_answer};
 ghost use Rattle.planner.specs.Answers.{plan_verdict, planned, marks_left, rows_left, least_verdict, least_answer, costs_left};
 ghost use Rattle.quote.specs.Answers.{quote_answer};
-ghost use Rattle.exports.specs.Answers.{of_check, of_plan, of_least, of_quote};
+ghost use Rattle.exports.specs.Answers.{of_number, of_plan};
 
-use crate::{Answer, accepted, refused};
-use base::widths::u64_from_u32;
-use checker::Checked;
-use planner::{LeastCosts, Planned};
-use quote::Quoted;
-
-fn of_check(outcome: Checked) -> Answer
-    ensures { result ≡ of_check outcome }
-{
-    match outcome {
-        Checked::Cost(cost) => accepted(cost, 0),
-        Checked::Refused(r) => refused(r),
-    }
-}
+use crate::Answer;
 
 // The answer's value is the cost.
 #[unsafe(no_mangle)]
 pub extern "C" fn caching_check(log: &[u8], rows: &[u32]) -> Answer
-    ensures { result ≡ of_check (check_answer built_in none log.now rows.now) }
+    ensures { result ≡ of_number (check_answer built_in none log.now rows.now) }
 {
-    of_check(checker::check(log, rows))
+    Answer::from(checker::check(log, rows))
 }
 
 // The answer's value is the cost.
 #[unsafe(no_mangle)]
 pub extern "C" fn caching_check_with(prices: &[u8], log: &[u8], rows: &[u32]) -> Answer
-    ensures { result ≡ of_check (check_answer (price_file prices.now) none log.now rows.now) }
+    ensures { result ≡ of_number (check_answer (price_file prices.now) none log.now rows.now) }
 {
-    of_check(checker::check_with(prices, log, rows))
+    Answer::from(checker::check_with(prices, log, rows))
 }
 
 // The answer's value is the cost.
 #[unsafe(no_mangle)]
 pub extern "C" fn caching_check_uploads(upload: u32, log: &[u8], rows: &[u32]) -> Answer
-    ensures { result ≡ of_check (check_answer built_in (some upload) log.now rows.now) }
+    ensures { result ≡ of_number (check_answer built_in (some upload) log.now rows.now) }
 {
-    of_check(checker::check_uploads(upload, log, rows))
+    Answer::from(checker::check_uploads(upload, log, rows))
 }
 
 // The answer's value is the cost.
@@ -54,18 +41,9 @@ pub extern "C" fn caching_check_uploads_with(
     log: &[u8],
     rows: &[u32],
 ) -> Answer
-    ensures { result ≡ of_check (check_answer (price_file prices.now) (some upload) log.now rows.now) }
+    ensures { result ≡ of_number (check_answer (price_file prices.now) (some upload) log.now rows.now) }
 {
-    of_check(checker::check_uploads_with(prices, upload, log, rows))
-}
-
-fn of_plan(outcome: Planned) -> Answer
-    ensures { result ≡ of_plan outcome }
-{
-    match outcome {
-        Planned::Plan { cost, rows } => accepted(cost, u64_from_u32(rows)),
-        Planned::Refused(r) => refused(r),
-    }
+    Answer::from(checker::check_uploads_with(prices, upload, log, rows))
 }
 
 // The answer's values are the cost and the number of rows.
@@ -75,7 +53,7 @@ pub extern "C" fn caching_plan(log: &[u8], marks: &mut [u8], rows: &mut [u32]) -
     ensures marks_after { marks.new ≡ marks_left built_in none log.now marks.old rows.old }
     ensures rows_after { rows.new ≡ rows_left built_in none log.now marks.old rows.old }
 {
-    of_plan(planner::plan(log, marks, rows))
+    Answer::from(planner::plan(log, marks, rows))
 }
 
 // The answer's values are the cost and the number of rows.
@@ -90,7 +68,7 @@ pub extern "C" fn caching_plan_with(
     ensures marks_after { marks.new ≡ marks_left (price_file prices.now) none log.now marks.old rows.old }
     ensures rows_after { rows.new ≡ rows_left (price_file prices.now) none log.now marks.old rows.old }
 {
-    of_plan(planner::plan_with(prices, log, marks, rows))
+    Answer::from(planner::plan_with(prices, log, marks, rows))
 }
 
 // The answer's values are the cost and the number of rows.
@@ -105,7 +83,7 @@ pub extern "C" fn caching_plan_uploads(
     ensures marks_after { marks.new ≡ marks_left built_in (some upload) log.now marks.old rows.old }
     ensures rows_after { rows.new ≡ rows_left built_in (some upload) log.now marks.old rows.old }
 {
-    of_plan(planner::plan_uploads(upload, log, marks, rows))
+    Answer::from(planner::plan_uploads(upload, log, marks, rows))
 }
 
 // The answer's values are the cost and the number of rows.
@@ -121,43 +99,34 @@ pub extern "C" fn caching_plan_uploads_with(
     ensures marks_after { marks.new ≡ marks_left (price_file prices.now) (some upload) log.now marks.old rows.old }
     ensures rows_after { rows.new ≡ rows_left (price_file prices.now) (some upload) log.now marks.old rows.old }
 {
-    of_plan(planner::plan_uploads_with(prices, upload, log, marks, rows))
-}
-
-fn of_least(outcome: LeastCosts) -> Answer
-    ensures { result ≡ of_least outcome }
-{
-    match outcome {
-        LeastCosts::Costs(count) => accepted(u64_from_u32(count), 0),
-        LeastCosts::Refused(r) => refused(r),
-    }
+    Answer::from(planner::plan_uploads_with(prices, upload, log, marks, rows))
 }
 
 // The answer's value is the number of costs.
 #[unsafe(no_mangle)]
 pub extern "C" fn caching_least(log: &[u8], costs: &mut [u64]) -> Answer
-    ensures value { result ≡ of_least (least_answer (least_verdict built_in none log.now (length costs.old)) log.now) }
+    ensures value { result ≡ of_number (least_answer (least_verdict built_in none log.now (length costs.old)) log.now) }
     ensures costs_after { costs.new ≡ costs_left built_in none log.now costs.old }
 {
-    of_least(planner::least(log, costs))
+    Answer::from(planner::least(log, costs).map(u64::from))
 }
 
 // The answer's value is the number of costs.
 #[unsafe(no_mangle)]
 pub extern "C" fn caching_least_with(prices: &[u8], log: &[u8], costs: &mut [u64]) -> Answer
-    ensures value { result ≡ of_least (least_answer (least_verdict (price_file prices.now) none log.now (length costs.old)) log.now) }
+    ensures value { result ≡ of_number (least_answer (least_verdict (price_file prices.now) none log.now (length costs.old)) log.now) }
     ensures costs_after { costs.new ≡ costs_left (price_file prices.now) none log.now costs.old }
 {
-    of_least(planner::least_with(prices, log, costs))
+    Answer::from(planner::least_with(prices, log, costs).map(u64::from))
 }
 
 // The answer's value is the number of costs.
 #[unsafe(no_mangle)]
 pub extern "C" fn caching_least_uploads(upload: u32, log: &[u8], costs: &mut [u64]) -> Answer
-    ensures value { result ≡ of_least (least_answer (least_verdict built_in (some upload) log.now (length costs.old)) log.now) }
+    ensures value { result ≡ of_number (least_answer (least_verdict built_in (some upload) log.now (length costs.old)) log.now) }
     ensures costs_after { costs.new ≡ costs_left built_in (some upload) log.now costs.old }
 {
-    of_least(planner::least_uploads(upload, log, costs))
+    Answer::from(planner::least_uploads(upload, log, costs).map(u64::from))
 }
 
 // The answer's value is the number of costs.
@@ -168,33 +137,24 @@ pub extern "C" fn caching_least_uploads_with(
     log: &[u8],
     costs: &mut [u64],
 ) -> Answer
-    ensures value { result ≡ of_least (least_answer (least_verdict (price_file prices.now) (some upload) log.now (length costs.old)) log.now) }
+    ensures value { result ≡ of_number (least_answer (least_verdict (price_file prices.now) (some upload) log.now (length costs.old)) log.now) }
     ensures costs_after { costs.new ≡ costs_left (price_file prices.now) (some upload) log.now costs.old }
 {
-    of_least(planner::least_uploads_with(prices, upload, log, costs))
-}
-
-fn of_quote(outcome: Quoted) -> Answer
-    ensures { result ≡ of_quote outcome }
-{
-    match outcome {
-        Quoted::Cost(cost) => accepted(cost, 0),
-        Quoted::Refused(r) => refused(r),
-    }
+    Answer::from(planner::least_uploads_with(prices, upload, log, costs).map(u64::from))
 }
 
 // The answer's value is the quote.
 #[unsafe(no_mangle)]
 pub extern "C" fn caching_quote(log: &[u8]) -> Answer
-    ensures { result ≡ of_quote (quote_answer built_in log.now) }
+    ensures { result ≡ of_number (quote_answer built_in log.now) }
 {
-    of_quote(quote::quote(log))
+    Answer::from(quote::quote(log))
 }
 
 // The answer's value is the quote.
 #[unsafe(no_mangle)]
 pub extern "C" fn caching_quote_with(prices: &[u8], log: &[u8]) -> Answer
-    ensures { result ≡ of_quote (quote_answer (price_file prices.now) log.now) }
+    ensures { result ≡ of_number (quote_answer (price_file prices.now) log.now) }
 {
-    of_quote(quote::quote_with(prices, log))
+    Answer::from(quote::quote_with(prices, log))
 }

@@ -1,15 +1,15 @@
 -- 46 holds exactly where something is out of range.
-use Rattle.std.specs.Prelude.{true, false, ◌↔◌, ◌≡◌, refl, ℕ, zero, suc, ◌≤◌, ltb}
+use Rattle.std.specs.Prelude.{true, false, ◌↔◌, ◌≡◌, refl, ℕ, zero, suc, ◌≤◌, ltb, Ok, Err}
+use Rattle.base.specs.declared.reasons.Reason.TheVariants as reason
 use Rattle.std.proofs.Common.{sym, ◌∙◌, ltb-false, le-ltb}
 use Rattle.base.specs.declared.Refusal.{Refusal}
-use Rattle.base.specs.declared.Verdict.TheVariants as verdict
 use Rattle.base.specs.ChoiceLaws.{either_false, neither_of}
 use Rattle.base.specs.Choice.{pick, not_both}
-use Rattle.base.specs.Refusals.{first, reason, nth}
+use Rattle.base.specs.Refusals.{first, refusal, nth}
 use Rattle.base.specs.RefusalLaws.{first_refused, first_passed}
 use Rattle.prices.specs.PriceLaws.{in_range}
 use Rattle.forcing.specs.declared.Game.{Game}
-use Rattle.game.specs.declared.Played.TheVariants.{Keeper, Guest, Refused}
+use Rattle.game.specs.declared.Winner.TheVariants.{Keeper, Guest}
 use Rattle.forcing.specs.Positions.{start}
 use Rattle.forcing.specs.Winning.{keeper_wins}
 use Rattle.game.specs.Answers.{Ranged, beyond, play_conditions, play_verdict, played}
@@ -25,11 +25,11 @@ unfolding beyond
 not_beyond most x h l = neither_of (le-ltb x 1 h) (le-ltb most x l)
 
 -- a game is played exactly if it is in range
-pub ranged : (g : Game) → (play_verdict g ≡ verdict.Passed) ↔ Ranged g
+pub ranged : (g : Game) → (play_verdict g ≡ Ok tt) ↔ Ranged g
 unfolding play_verdict play_conditions first
 ranged g = (to, from)
   where
-    to : play_verdict g ≡ verdict.Passed → Ranged g
+    to : play_verdict g ≡ Ok tt → Ranged g
     to e =
         let f = (first_passed (play_conditions g)).0 e in
         let s = within_most 3 g.servers (f 0) in
@@ -51,7 +51,7 @@ ranged g = (to, from)
           q_most = q.1;
         }
 
-    from : Ranged g → play_verdict g ≡ verdict.Passed
+    from : Ranged g → play_verdict g ≡ Ok tt
     from R =
         rw (
           not_beyond 3 g.servers R.servers_least R.servers_most,
@@ -63,21 +63,21 @@ ranged g = (to, from)
         )
 
 -- then the answer is who wins
-pub played_winner : (g : Game) → play_verdict g ≡ verdict.Passed → played g ≡ pick (keeper_wins g g.requests start) Keeper Guest
+pub played_winner : (g : Game) → play_verdict g ≡ Ok tt → played g ≡ pick (keeper_wins g g.requests start) (Ok Keeper) (Ok Guest)
 unfolding played
 played_winner g e = rw e
 
 -- or the refusal
-pub played_refused : (g : Game) (r : Refusal) → play_verdict g ≡ verdict.Refused r → played g ≡ Refused r
+pub played_refused : (g : Game) (r : Refusal) → play_verdict g ≡ Err r → played g ≡ Err r
 unfolding played
 played_refused g r e = rw e
 
 -- which is 46, place 0
-pub only_46 : (g : Game) (r : Refusal) → play_verdict g ≡ verdict.Refused r → r ≡ record { number = 46; place = 0 }
+pub only_46 : (g : Game) (r : Refusal) → play_verdict g ≡ Err r → r ≡ record { reason = reason.GameRange; place = 0 }
 unfolding play_verdict play_conditions
 only_46 g r e = let f = (first_refused (play_conditions g) r).0 e in go f.index f.met f.gives
   where
-    reasons : (i : ℕ) → (nth (play_conditions g) i).holds ≡ true → reason (nth (play_conditions g) i) ≡ record { number = 46; place = 0 }
+    reasons : (i : ℕ) → (nth (play_conditions g) i).holds ≡ true → refusal (nth (play_conditions g) i) ≡ record { reason = reason.GameRange; place = 0 }
     reasons zero h = refl
     reasons (suc zero) h = refl
     reasons (suc (suc zero)) h = refl
@@ -86,5 +86,5 @@ only_46 g r e = let f = (first_refused (play_conditions g) r).0 e in go f.index 
     reasons (suc (suc (suc (suc (suc zero))))) h = refl
     reasons (suc (suc (suc (suc (suc (suc i)))))) h = absurd (not_both h refl)
 
-    go : (i : ℕ) → (nth (play_conditions g) i).holds ≡ true → reason (nth (play_conditions g) i) ≡ r → r ≡ record { number = 46; place = 0 }
+    go : (i : ℕ) → (nth (play_conditions g) i).holds ≡ true → refusal (nth (play_conditions g) i) ≡ r → r ≡ record { reason = reason.GameRange; place = 0 }
     go i h e = sym e ∙ reasons i h

@@ -1,13 +1,13 @@
 -- What `play` answers: 46, or who wins (02's Req 13). Assumes nothing.
-use Rattle.std.specs.Prelude.{Bool, List, [], ◌∷◌, ℕ, ◌≤◌, ltb}
+use Rattle.std.specs.Prelude.{Bool, List, [], ◌∷◌, ℕ, ◌≤◌, ltb, Ok, Err, Result}
+use Rattle.base.specs.declared.reasons.Reason.TheVariants as reason
 use Rattle.base.specs.Choice.{pick, either}
-use Rattle.base.specs.declared.Verdict.{Verdict}
-use Rattle.base.specs.declared.Verdict.TheVariants as verdict
-use Rattle.base.specs.Refusals.{Condition, refuse, first}
+use Rattle.base.specs.declared.Refusal.{Refusal}
+use Rattle.base.specs.Refusals.{Condition, refuse, first, Verdict}
 use Rattle.prices.specs.Prices.{outside, InRange}
 use Rattle.forcing.specs.declared.Game.{Game}
-use Rattle.game.specs.declared.Played.{Played}
-use Rattle.game.specs.declared.Played.TheVariants.{Keeper, Guest, Refused}
+use Rattle.game.specs.declared.Winner.{Winner}
+use Rattle.game.specs.declared.Winner.TheVariants.{Keeper, Guest}
 use Rattle.forcing.specs.Positions.{start}
 use Rattle.forcing.specs.Winning.{keeper_wins}
 
@@ -32,12 +32,12 @@ pub record Ranged (g : Game) : Type 0 where
 -- 46: a size is not from 1 to 3, a price not from 1 to 1,000,000, or a part of the limit not from 1 to 1,000
 unfoldable pub play_conditions : Game → List Condition
 play_conditions g =
-    refuse 46 0 (beyond 3 g.servers)
-    ∷ refuse 46 0 (beyond 3 g.requests)
-    ∷ refuse 46 0 (beyond 3 g.largest)
-    ∷ refuse 46 0 (outside g.prices)
-    ∷ refuse 46 0 (beyond 1000 g.p)
-    ∷ refuse 46 0 (beyond 1000 g.q)
+    refuse reason.GameRange 0 (beyond 3 g.servers)
+    ∷ refuse reason.GameRange 0 (beyond 3 g.requests)
+    ∷ refuse reason.GameRange 0 (beyond 3 g.largest)
+    ∷ refuse reason.GameRange 0 (outside g.prices)
+    ∷ refuse reason.GameRange 0 (beyond 1000 g.p)
+    ∷ refuse reason.GameRange 0 (beyond 1000 g.q)
     ∷ []
 
 -- passed, or 46
@@ -45,10 +45,10 @@ unfoldable pub play_verdict : Game → Verdict
 play_verdict g = first (play_conditions g)
 
 -- by that verdict: the refusal, or who wins all the requests
-abbrev pub played_by : Game → Verdict → Played
-played_by g verdict.Passed = pick (keeper_wins g g.requests start) Keeper Guest
-played_by g (verdict.Refused r) = Refused r
+abbrev pub played_by : Game → Verdict → Result Winner Refusal
+played_by g (Ok _) = pick (keeper_wins g g.requests start) (Ok Keeper) (Ok Guest)
+played_by g (Err r) = Err r
 
 -- the answer
-unfoldable pub played : Game → Played
+unfoldable pub played : Game → Result Winner Refusal
 played g = played_by g (play_verdict g)

@@ -5,8 +5,7 @@ ghost use Rattle.game.specs.Answers.{Ranged};
 ghost use Rattle.game.specs.Boards.{Fits};
 ghost use Rattle.game.specs.Costs.{asked_at, source_of, sent_cost, kept_cost, next_cost, limit, limits};
 
-use crate::board::{Board, lesser, now_of, of_four};
-use base::widths::{size_from_u32, u64_from_u32};
+use crate::board::{Board, at, now_of};
 use forcing::Game;
 
 // A price, paid a few times.
@@ -23,18 +22,14 @@ pub(crate) fn scaled(part: u32, cost: u32) -> u64
     requires { (part ≤ 1000) × (cost ≤ 40000000) }
     ensures { result ≡ part * cost }
 {
-    u64_from_u32(part) * u64_from_u32(cost)
+    u64::from(part) * u64::from(cost)
 }
 
 // Is request i one of those so far, and at server x?
 fn asked_at(board: Board, x: u32, i: u32) -> bool
     ensures { result ≡ asked_at board x i }
 {
-    if board.count < i {
-        return false;
-    }
-    let servers = board.servers;
-    of_four(servers, i) == x
+    i <= board.count && at(board.servers, i, 0) == x
 }
 
 // The latest of the first three that is, or 4.
@@ -58,8 +53,7 @@ fn sent_cost(game: Game, board: Board, gap: u32, c: u32) -> u32
     requires { Ranged game × Fits game board × (board.count < 3) × (gap ≤ 3) }
     ensures { result ≡ sent_cost game board gap c }
 {
-    let costs = board.costs;
-    let before = of_four(costs, lesser(c, board.count));
+    let before = at(board.costs, c.min(board.count), 0);
     if board.count < c {
         return game.prices.transfer + paid(game.prices.hold, gap) + before;
     }
@@ -71,10 +65,8 @@ fn kept_cost(game: Game, board: Board, gap: u32, from: u32, c: u32) -> u32
     requires { Ranged game × Fits game board × (board.count < 3) × (gap ≤ 3) }
     ensures { result ≡ kept_cost game board gap from c }
 {
-    let seconds = board.seconds;
-    let since = of_four(seconds, from);
-    let costs = board.costs;
-    let before = of_four(costs, lesser(c, from));
+    let since = at(board.seconds, from, 0);
+    let before = at(board.costs, c.min(from), 0);
     let span = now_of(board) + gap - since;
     paid(game.prices.hold, span) + before
 }
@@ -90,10 +82,7 @@ fn next_cost(game: Game, board: Board, gap: u32, from: u32, c: u32) -> u32
     if from == board.count {
         return kept_cost(game, board, gap, from, c);
     }
-    lesser(
-        sent_cost(game, board, gap, c),
-        kept_cost(game, board, gap, from, c),
-    )
+    sent_cost(game, board, gap, c).min(kept_cost(game, board, gap, from, c))
 }
 
 // The costs for each c.
@@ -121,16 +110,14 @@ fn limit(game: Game, board: Board, x: u32) -> u64
 }
 
 // For each of three servers.
+#[tactic(auto, unfolding(crate::specs::Costs::limits, base::specs::Lists::build))]
 pub(crate) fn limits(game: Game, board: Board) -> [u64; 3]
     requires { Ranged game × Fits game board × (board.count < 3) }
     ensures { result ≡ limits game board }
 {
-    let mut out = [0u64; 3];
-    let mut x: u32 = 0;
-    while x < 3 {
-        let at = size_from_u32(x);
-        out[at] = limit(game, board, x);
-        x += 1;
-    }
-    out
+    [
+        limit(game, board, 0),
+        limit(game, board, 1),
+        limit(game, board, 2),
+    ]
 }

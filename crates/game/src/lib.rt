@@ -8,13 +8,11 @@ mod rounds;
 mod settings;
 mod turns;
 
-use base::Refusal;
 pub use playing::play;
 
-// Who wins, or the refusal.
-#[derive(Clone, Copy)]
-pub enum Played {
+// Who wins.
+#[derive(Clone, Copy, Debug, PartialEq, Eq)]
+pub enum Winner {
     Keeper,
     Guest,
-    Refused(Refusal),
 }

@@ -2,11 +2,11 @@
 ghost use Rattle.std.specs.Prelude.{◌≡◌};
 ghost use Rattle.game.specs.Answers.{beyond, play_verdict, played};
 
-use crate::Played;
+use crate::Winner;
 use crate::board::start;
 use crate::turns::keeper;
-use base::Verdict;
-use base::refusals::or_else;
+use base::refusals::refuse_if;
+use base::{Reason, Refusal, Verdict};
 use forcing::Game;
 use prices::outside;
 
@@ -14,35 +14,30 @@ use prices::outside;
 fn beyond(most: u32, x: u32) -> bool
     ensures { result ≡ beyond most x }
 {
-    if x < 1 {
-        return true;
-    }
-    most < x
+    x < 1 || most < x
 }
 
 // 46.
+#[tactic(auto, using(base::specs::RefusalLaws::chain), unfolding(crate::specs::Answers::play_verdict, crate::specs::Answers::play_conditions))]
 fn play_fault(game: Game) -> Verdict
     ensures { result ≡ play_verdict game }
 {
     let prices = game.prices;
-    let a = or_else(Verdict::Passed, beyond(3, game.servers), 46, 0);
-    let b = or_else(a, beyond(3, game.requests), 46, 0);
-    let c = or_else(b, beyond(3, game.largest), 46, 0);
-    let d = or_else(c, outside(prices), 46, 0);
-    let e = or_else(d, beyond(1000, game.p), 46, 0);
-    or_else(e, beyond(1000, game.q), 46, 0)
+    refuse_if(beyond(3, game.servers), Reason::GameRange, 0)?;
+    refuse_if(beyond(3, game.requests), Reason::GameRange, 0)?;
+    refuse_if(beyond(3, game.largest), Reason::GameRange, 0)?;
+    refuse_if(outside(prices), Reason::GameRange, 0)?;
+    refuse_if(beyond(1000, game.p), Reason::GameRange, 0)?;
+    refuse_if(beyond(1000, game.q), Reason::GameRange, 0)
 }
 
 // Who wins the game.
-pub fn play(game: Game) -> Played
+pub fn play(game: Game) -> Result<Winner, Refusal>
     ensures { result ≡ played game }
 {
-    let fault = play_fault(game);
-    if let Verdict::Refused(r) = fault {
-        return Played::Refused(r);
-    }
+    play_fault(game)?;
     if keeper(game, start(), game.requests) {
-        return Played::Keeper;
+        return Ok(Winner::Keeper);
     }
-    Played::Guest
+    Ok(Winner::Guest)
 }

@@ -4,19 +4,15 @@ ghost use Rattle.base.specs.Choice.{pick, either};
 ghost use Rattle.game.specs.Answers.{Ranged};
 ghost use Rattle.game.specs.Boards.{Fits, moved};
 
-use crate::board::{Board, lesser, now_of, of_three};
+use crate::board::{Board, at, now_of};
 use crate::costs::next_costs;
-use base::widths::size_from_u32;
 use forcing::Game;
 
 // Does a copy stand at server y after the request at x?
 fn here(stays: [u32; 3], gap: u32, x: u32, y: u32) -> bool
     ensures { result ≡ either (eqb y x) (leb gap (get_or stays y 0)) }
 {
-    if y == x {
-        return true;
-    }
-    gap <= of_three(stays, y)
+    y == x || gap <= at(stays, y, 0)
 }
 
 // The transfers that the request at x takes.
@@ -24,7 +20,7 @@ pub(crate) fn sends(stays: [u32; 3], gap: u32, x: u32) -> u32
     ensures value { result ≡ pick (leb gap (get_or stays x 0)) 0 1 }
     ensures upper_bound { result ≤ 1 }
 {
-    if gap <= of_three(stays, x) {
+    if gap <= at(stays, x, 0) {
         return 0;
     }
     1
@@ -35,7 +31,7 @@ fn holding(stays: [u32; 3], gap: u32, y: u32) -> u32
     ensures value { result ≡ min (get_or stays y 0) gap }
     ensures upper_bound { result ≤ gap }
 {
-    lesser(of_three(stays, y), gap)
+    at(stays, y, 0).min(gap)
 }
 
 // The seconds that all three hold in it.
@@ -53,7 +49,7 @@ pub(crate) fn moved(game: Game, board: Board, stays: [u32; 3], gap: u32, x: u32)
     ensures { result ≡ moved game board stays gap x }
 {
     let count = board.count + 1;
-    let at = size_from_u32(count);
+    let at = count as usize;
     let mut seconds = board.seconds;
     seconds[at] = now_of(board) + gap;
     let mut servers = board.servers;

@@ -3,20 +3,17 @@ ghost use Rattle.std.specs.Prelude.{◌≡◌, ◌≤◌};
 ghost use Rattle.game.specs.Answers.{Ranged};
 ghost use Rattle.game.specs.Settings.{free, settings, stay, setting};
 
-use crate::board::{Board, last_of, stands};
+use crate::board::{Board, at, last_of};
 use forcing::Game;
 
 // How long the copy at server y can be set to stay.
+#[tactic(auto, unfolding(crate::specs::Settings::free))]
 fn free(game: Game, board: Board, y: u32) -> u32
     requires { Ranged game }
     ensures value { result ≡ free game board y }
     ensures upper_bound { result ≤ 3 }
 {
-    let copies = board.copies;
-    if stands(copies, y) {
-        if y == last_of(board) {
-            return 0;
-        }
+    if at(board.copies, y, false) && y != last_of(board) {
         return game.largest;
     }
     0

@@ -11,7 +11,6 @@ use crate::board::Board;
 use crate::costs::{limits, paid, scaled};
 use crate::rounds::{holding_all, moved, sends};
 use crate::settings::{setting, settings};
-use base::widths::size_from_u32;
 use forcing::Game;
 
 // The running cost after a gap, but for the request's own transfer.
@@ -39,7 +38,7 @@ fn holds(
 {
     let cost = sum + paid(game.prices.transfer, sends(stays, i + 1, x));
     let gap = scaled(game.p, paid(game.prices.hold, i + 1));
-    let at = size_from_u32(x);
+    let at = x as usize;
     scaled(game.q, cost) <= allowed[at] + gap
 }
 
@@ -74,12 +73,10 @@ fn asks(game: Game, board: Board, allowed: &[u64; 3], stays: [u32; 3], i: u32, l
     ensures { result ≡ asking game (shown board) (stays_in stays) left i }
 {
     let sum = spent(game, board, stays, i + 1);
-    let mut x: u32 = 0;
-    while x < game.servers {
+    for x in 0..game.servers {
         if beats(game, board, allowed, stays, i, x, sum, left) {
             return true;
         }
-        x += 1;
     }
     false
 }
@@ -90,12 +87,10 @@ fn guest(game: Game, board: Board, allowed: &[u64; 3], stays: [u32; 3], left: u3
     requires { Turn game board allowed.now stays × (board.count + left < 3) }
     ensures { result ≡ guest_wins game (shown board) (stays_in stays) (keeper_wins game left) }
 {
-    let mut i: u32 = 0;
-    while i < game.largest {
+    for i in 0..game.largest {
         if asks(game, board, allowed, stays, i, left) {
             return true;
         }
-        i += 1;
     }
     false
 }
@@ -107,13 +102,10 @@ pub(crate) fn keeper(game: Game, board: Board, left: u32) -> bool
     ensures { result ≡ keeper_wins game left (shown board) }
 {
     let allowed = limits(game, board);
-    let count = settings(game, board);
-    let mut k: u32 = 0;
-    while k < count {
+    for k in 0..settings(game, board) {
         if !guest(game, board, &allowed, setting(game, board, k), left - 1) {
             return true;
         }
-        k += 1;
     }
     false
 }

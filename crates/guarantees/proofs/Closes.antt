@@ -1,7 +1,6 @@
 -- What a close after a list of calls costs, proved.
-use Rattle.std.specs.Prelude.{List, ◌≡◌}
+use Rattle.std.specs.Prelude.{List, ◌≡◌, Ok}
 use Rattle.std.proofs.Common.{ap}
-use Rattle.base.specs.declared.Verdict.TheVariants.{Passed}
 use Rattle.prices.specs.Tariff.{Tariff, Given}
 use Rattle.request_log.specs.declared.Header.{Header}
 use Rattle.online.specs.declared.Cache.{Cache}
@@ -12,7 +11,7 @@ use Rattle.guarantees.specs.Demand3.{Ready, online_within_three}
 use Rattle.guarantees.specs.Closes.{close_answers, ClosedWithin}
 
 -- THE CLOSE AFTER A LIST OF CALLS
-pub close_within : (t : Tariff) (g : Given t) (s : Header) (c : Cache) → Ready t g s c → (calls : List Call) → close_verdict (run c calls) ≡ Passed
+pub close_within : (t : Tariff) (g : Given t) (s : Header) (c : Cache) → Ready t g s c → (calls : List Call) → close_verdict (run c calls) ≡ Ok tt
     → ClosedWithin t s c calls
 close_within t g s c r calls f =
     let claim = online_within_three t g s c r calls in

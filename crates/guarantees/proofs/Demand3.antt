@@ -1,12 +1,11 @@
 -- The planner's half of demand 3, proved.
 use mathlib.Core.List.{List, [], ◌∷◌, ◌++◌}
 use Rattle.std.proofs.Math.Option.{Option}
-use Rattle.std.specs.Prelude.{◌≡◌, ℕ, suc, ◌*◌, ◌≤◌, get_or}
+use Rattle.std.specs.Prelude.{◌≡◌, ℕ, suc, ◌*◌, ◌≤◌, get_or, Ok}
 use Rattle.std.proofs.Common.{ap, ◌∙◌, arith}
 use Rattle.std.proofs.Math.Path.{sym}
 use borrow.Author.Tests.{le-ltb}
 use Rattle.std.proofs.Math.ListN.{length}
-use Rattle.base.specs.declared.Verdict.TheVariants.{Passed}
 use Rattle.base.specs.Refusals.{first, short}
 use Rattle.base.specs.RefusalLaws.{first_append}
 use Rattle.base.specs.Lists.{build_at}
@@ -24,14 +23,13 @@ use Rattle.model.proofs.Alike.{best_alike}
 use Rattle.model.specs.Plan.{plan_cost, plan_rows}
 use Rattle.model.proofs.PlanLaws.{plan_best}
 use Rattle.model.specs.RowForm.{flat}
-use Rattle.checker.specs.declared.Checked.TheVariants as answer
 use Rattle.checker.specs.Answers.{check_answer}
-use Rattle.planner.specs.declared.Planned.TheVariants as planner
 use Rattle.planner.specs.Answers.{planned_rows, rows_of_plan, plan_verdict, planned, least_costs}
 use Rattle.request_log.specs.ConditionLaws.{after_accepted}
 use Rattle.guarantees.specs.CheckerAccepts.{schedule_accepted}
 use Rattle.guarantees.specs.Optimality.{Optimal, optimal}
 use Rattle.guarantees.specs.Demand3.{PlannedBest}
+use Rattle.planner.specs.Outcome.{a_plan}
 
 module _ (t : Tariff) (u : Option ℕ) (taken : Taken u) (log : List ℕ) (k : ℕ) (a : Accepted t log) (h : k ≤ request_count log) where
   part : List ℕ
@@ -61,13 +59,13 @@ module _ (t : Tariff) (u : Option ℕ) (taken : Taken u) (log : List ℕ) (k : �
       let rows : length (plan_rows (rates_in t u part) (requests_in part) (server_count_of part) (request_count part)) ≤ 2 * k = rw part_count part_best.few in
       omega (arith, rows, (accepted_sound t log a).requests_most, h)
 
-  checks : check_answer t u part (rows_of_plan t u part) ≡ answer.Cost (plan_cost (rates_in t u part) (requests_in part) k)
+  checks : check_answer t u part (rows_of_plan t u part) ≡ Ok (plan_cost (rates_in t u part) (requests_in part) k)
   checks =
       let rows = plan_rows (rates_in t u part) (requests_in part) (server_count_of part) k in
       rw part_rows
-      (schedule_accepted t u part rows part_accepted taken (rw part_count part_best.formed) (rw part_count part_best.feasible) ∙ ap answer.Cost part_best.costs)
+      (schedule_accepted t u part rows part_accepted taken (rw part_count part_best.formed) (rw part_count part_best.feasible) ∙ ap Ok part_best.costs)
 
-  answered : (marks rows : ℕ) → k ≤ marks → length (rows_of_plan t u part) ≤ rows → plan_verdict t u part marks rows ≡ Passed
+  answered : (marks rows : ℕ) → k ≤ marks → length (rows_of_plan t u part) ≤ rows → plan_verdict t u part marks rows ≡ Ok tt
   unfolding plan_verdict first
   answered marks rows l w =
       let room = short (request_count part) marks ∷ short (length (rows_of_plan t u part)) rows ∷ [] in
@@ -76,7 +74,7 @@ module _ (t : Tariff) (u : Option ℕ) (taken : Taken u) (log : List ℕ) (k : �
       ∙ rw ((taken_iff u).1 taken, part_count, le-ltb marks k l, le-ltb rows (length (rows_of_plan t u part)) w))
 
   gives : (marks rows : ℕ) → k ≤ marks → length (rows_of_plan t u part) ≤ rows
-      → planned (plan_verdict t u part marks rows) t u part ≡ planner.Plan (plan_cost (rates_in t u part) (requests_in part) k) (length (planned_rows t u part))
+      → planned (plan_verdict t u part marks rows) t u part ≡ a_plan (plan_cost (rates_in t u part) (requests_in part) k) (length (planned_rows t u part))
   unfolding planned
   gives marks rows l w = rw (answered marks rows l w, part_count)
 

@@ -1,10 +1,9 @@
 -- The columns of the sheet, proved.
-use Rattle.std.specs.Prelude.{List, ◌≡◌, ℕ, zero, suc, ◌-◌, ◌≤◌, ◌<◌, length, get_or}
+use Rattle.std.specs.Prelude.{List, ◌≡◌, ℕ, zero, suc, ◌-◌, ◌≤◌, ◌<◌, length, get_or, Ok}
 use Rattle.std.proofs.Math.Option.{none}
 use Rattle.std.proofs.Math.Path.{refl}
 use Rattle.std.proofs.Common.{sym, ap, ◌∙◌, arith}
 use Rattle.base.specs.Lists.{build, build_at}
-use Rattle.base.specs.declared.Verdict.TheVariants.{Passed}
 use Rattle.prices.specs.PriceLaws.{given_priced}
 use Rattle.prices.specs.Tariff.{Tariff, Given}
 use Rattle.request_log.specs.Fields.{id_of, request_count, seconds_of, servers_of, header_of}
@@ -12,7 +11,6 @@ use Rattle.request_log.specs.Conditions.{Accepted}
 use Rattle.request_log.specs.Contents.{cut}
 use Rattle.model.specs.LogRequests.{requests_in, prices_in, rates_in}
 use Rattle.model.specs.Plan.{plan_cost}
-use Rattle.planner.specs.declared.Planned.TheVariants as planned'
 use Rattle.planner.specs.Answers.{planned_rows, least_costs}
 use Rattle.online.specs.Rules.{running}
 use Rattle.online.specs.Answers.{close_verdict}
@@ -29,6 +27,7 @@ use Rattle.guarantees.proofs.Demand3.{planned_best}
 use Rattle.guarantees.specs.Closes.{close_at_once}
 use Rattle.guarantees.proofs.Closes.{close_within}
 use Rattle.guarantees.specs.SheetColumns.{line_of, LeastColumn, LiveColumns, all_calls, CloseLine}
+use Rattle.planner.specs.Outcome.{a_plan}
 
 -- THE SHEET'S LEAST COLUMN
 pub least_column : (t : Tariff) (log : List ℕ) (k : ℕ) → Accepted t log → 1 ≤ k → k ≤ request_count log → LeastColumn t log k
@@ -42,7 +41,7 @@ least_column t log k a least most =
       number_is = number;
       least_is = column;
       answers = λ marks rows h l.
-          best.gives marks rows h l ∙ ap (λ (cost : ℕ). planned'.Plan cost (length (planned_rows t none (cut k log)))) (sym column);
+          best.gives marks rows h l ∙ ap (λ (cost : ℕ). a_plan cost (length (planned_rows t none (cut k log)))) (sym column);
     }
 
 module _ (t : Tariff) (g : Given t) (log : List ℕ) (i : ℕ) (a : Accepted t log) (h : i < request_count log) where
@@ -88,7 +87,7 @@ pub close_line : (t : Tariff) → Given t → (log : List ℕ) → Accepted t lo
 unfolding closing_cost state_after scans build run opened prices_in header_of
 close_line t g log a =
     let n = request_count log in
-    let passes : close_verdict (run (opened t log) (all_calls log)) ≡ Passed = closes t (given_priced t g) log a in
+    let passes : close_verdict (run (opened t log) (all_calls log)) ≡ (Ok tt) = closes t (given_priced t g) log a in
     let w = close_within t g (header_of log) (opened t log) (for_log (starts t (given_priced t g) log a)) (all_calls log) passes in
     let least : w.claimed.least ≡ get_or (least_costs t none log) n 0 =
     least_of t (given_priced t g) log n a (omega arith) w.claimed ∙ sym (planned_best t none tt log n a (omega arith)).least_is in

@@ -1,10 +1,9 @@
 -- The week page, proved.
-use Rattle.std.specs.Prelude.{◌≡◌, ℕ, pred}
+use Rattle.std.specs.Prelude.{◌≡◌, ℕ, pred, Ok}
 use mathlib.Core.List.{List}
 use Rattle.std.proofs.Common.{arith}
 use Rattle.std.proofs.Math.Option.{none}
 use Rattle.base.specs.Lists.{build_at}
-use Rattle.base.specs.declared.Verdict.TheVariants.{Passed}
 use Rattle.prices.specs.Tariff.{Tariff}
 use Rattle.request_log.specs.Fields.{server_count_of, request_count}
 use Rattle.model.specs.LogRequests.{requests_in, rates_in}
@@ -25,7 +24,7 @@ use Rattle.guarantees.specs.Optimality.{optimal}
 use Rattle.guarantees.specs.WeekPage.{PageRight}
 
 -- THE WEEK PAGE: of every log that is accepted and has no request after the week
-pub page_right : (t : Tariff) (log : List ℕ) → week_verdict t log ≡ Passed → PageRight t log
+pub page_right : (t : Tariff) (log : List ℕ) → week_verdict t log ≡ Ok tt → PageRight t log
 unfolding page_of planned_rows plan_rows day_sums cost_of or_zero rates
 page_right t log e =
     let a = week_accepted t log e in

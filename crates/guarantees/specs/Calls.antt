@@ -1,13 +1,12 @@
 -- Demand 1, over the definitions that the contracts cite: a call is refused with r exactly if r is given by the first of its conditions that
 -- holds; a refusal leaves each lent list as it was, an acceptance gives the answer and then zeros, and no lent list changes its length.
-use Rattle.std.specs.Prelude.{false, List, [], ◌∷◌, ◌++◌, ◌↔◌, ◌≡◌, refl, ℕ, suc, ◌-◌, ◌≤◌, leb, length, replicate}
+use Rattle.std.specs.Prelude.{false, List, [], ◌∷◌, ◌++◌, ◌↔◌, ◌≡◌, refl, ℕ, suc, ◌-◌, ◌≤◌, leb, length, replicate, Ok, Err}
+use Rattle.base.specs.declared.reasons.Reason.TheVariants as reason
 use Rattle.std.proofs.Math.Option.{Option}
 use Rattle.std.proofs.Common.{ap, arith, ltb-false, length-append, length-take-le}
 use Rattle.std.proofs.lemmas.List.{length-replicate}
 use Rattle.base.specs.declared.Refusal.{Refusal}
-use Rattle.base.specs.declared.Verdict.{Verdict}
-use Rattle.base.specs.declared.Verdict.TheVariants.{Passed, Refused}
-use Rattle.base.specs.Refusals.{Condition, refuse, first, otherwise, short, nth, First}
+use Rattle.base.specs.Refusals.{Condition, refuse, first, otherwise, short, nth, First, Verdict}
 use Rattle.base.specs.RefusalLaws.{first_refused, first_passed, first_append, otherwise_passed, append_passed}
 use Rattle.base.specs.Lent.{lent}
 use Rattle.base.specs.Lists.{build_length}
@@ -48,8 +47,8 @@ use Rattle.online.specs.Answers.{start_verdict, log_start_verdict, scan_verdict,
 
 -- a verdict is that of a list of conditions
 pub record Decided (cs : List Condition) (v : Verdict) : Type 0 where
-  pub refused : (r : Refusal) → (v ≡ Refused r) ↔ First cs r
-  pub passed : (v ≡ Passed) ↔ ((i : ℕ) → (nth cs i).holds ≡ false)
+  pub refused : (r : Refusal) → (v ≡ Err r) ↔ First cs r
+  pub passed : (v ≡ Ok tt) ↔ ((i : ℕ) → (nth cs i).holds ≡ false)
 
 decided : (cs : List Condition) → Decided cs (first cs)
 decided cs = record { refused = first_refused cs; passed = first_passed cs }
@@ -72,19 +71,19 @@ file_decided bytes = decided (file_conditions bytes)
 
 -- what a lent list holds at the end
 pub record Left (v : Verdict) (answer entry : List ℕ) : Type 0 where
-  pub unchanged : (r : Refusal) → v ≡ Refused r → lent v answer entry ≡ entry
-  pub given : v ≡ Passed → lent v answer entry ≡ answer ++ replicate (length entry - length answer) 0
+  pub unchanged : (r : Refusal) → v ≡ Err r → lent v answer entry ≡ entry
+  pub given : v ≡ Ok tt → lent v answer entry ≡ answer ++ replicate (length entry - length answer) 0
   pub as_long : length (lent v answer entry) ≡ length entry
 
-left : (v : Verdict) (answer entry : List ℕ) → (v ≡ Passed → length answer ≤ length entry) → Left v answer entry
+left : (v : Verdict) (answer entry : List ℕ) → (v ≡ Ok tt → length answer ≤ length entry) → Left v answer entry
 unfolding lent
 left v answer entry h =
     record { unchanged = λ r e. rw e; given = λ e. rw e; as_long = as_long v refl }
   where
     as_long : (w : Verdict) → v ≡ w → length (lent v answer entry) ≡ length entry
-    as_long Passed e =
+    as_long (Ok _) e =
         rw e (simp (length-append, length-replicate {A = ℕ} (length entry - length answer) 0) (omega (arith, h e)))
-    as_long (Refused r) e = rw e
+    as_long (Err r) e = rw e
 
 -- reading a log
 pub read_decided : (t : Tariff) (g : Given t) (log : List ℕ) (seconds servers : ℕ)
@@ -141,7 +140,7 @@ plan_left t u log marks rows = (
     outputs : List Condition
     outputs = short (request_count log) (length marks) ∷ short (length (rows_of_plan t u log)) (length rows) ∷ []
 
-    room : v ≡ Passed → (i : ℕ) → (nth outputs i).holds ≡ false
+    room : v ≡ Ok tt → (i : ℕ) → (nth outputs i).holds ≡ false
     room e =
         let (a, b) = (append_passed (log_conditions t.table log) (upload_conditions u ++ outputs)).0 (otherwise_passed t.judged _ e).1 in
         (first_passed outputs).0 ((append_passed (upload_conditions u) outputs).0 b).1
@@ -165,7 +164,7 @@ least_left t u log costs =
     outputs : List Condition
     outputs = short (suc (request_count log)) (length costs) ∷ []
 
-    room : least_verdict t u log (length costs) ≡ Passed → (i : ℕ) → (nth outputs i).holds ≡ false
+    room : least_verdict t u log (length costs) ≡ Ok tt → (i : ℕ) → (nth outputs i).holds ≡ false
     room e =
         let (a, b) = (append_passed (log_conditions t.table log) (upload_conditions u ++ outputs)).0 (otherwise_passed t.judged _ e).1 in
         (first_passed outputs).0 ((append_passed (upload_conditions u) outputs).0 b).1
@@ -215,7 +214,7 @@ sheet_left t log text =
     outputs : List Condition
     outputs = short (length (sheet_of t log)) (length text) ∷ []
 
-    room : sheet_verdict t log (length text) ≡ Passed → (i : ℕ) → (nth outputs i).holds ≡ false
+    room : sheet_verdict t log (length text) ≡ Ok tt → (i : ℕ) → (nth outputs i).holds ≡ false
     room e = (first_passed outputs).0 ((append_passed (log_conditions t.table log) outputs).0 (otherwise_passed t.judged _ e).1).1
 
 -- the week page of a log
@@ -232,7 +231,7 @@ page_left t log text =
     own : List Condition
     own = after_week log ∷ short (length (page_of t log)) (length text) ∷ []
 
-    room : page_verdict t log (length text) ≡ Passed → (i : ℕ) → (nth own i).holds ≡ false
+    room : page_verdict t log (length text) ≡ Ok tt → (i : ℕ) → (nth own i).holds ≡ false
     room e = (first_passed own).0 ((append_passed (log_conditions t.table log) own).0 (otherwise_passed t.judged _ e).1).1
 
 -- a text that is given whole
@@ -251,7 +250,7 @@ pub line_left : (r : Refusal) (text : List ℕ) → Left (room_verdict (refusal_
 line_left r text = text_left (refusal_text r) text
 
 -- a piece of a season: 32 where more is said to be held than an unfinished log can have, 31 for the room
-pub feed_decided : (held room : ℕ) → Decided (refuse 32 0 (leb log_room held) ∷ short log_room room ∷ []) (feed_verdict held room)
+pub feed_decided : (held room : ℕ) → Decided (refuse reason.BrokenState 0 (leb log_room held) ∷ short log_room room ∷ []) (feed_verdict held room)
 unfolding feed_verdict
 feed_decided held room = decided _
 
@@ -264,7 +263,7 @@ feed_left t season room piece =
     omega (arith, held_short t (gathered_in season room) piece (omega (arith, length-take-le season.held room (omega (arith, short_of, roomy)), short_of)), roomy))
 
 -- a refused piece gives back the season as it was
-pub feed_unchanged : (t : Tariff) (season : Season) (room piece : List ℕ) (r : Refusal) → feed_verdict season.held (length room) ≡ Refused r
+pub feed_unchanged : (t : Tariff) (season : Season) (room piece : List ℕ) (r : Refusal) → feed_verdict season.held (length room) ≡ Err r
     → (fed t season room piece).season ≡ season
 unfolding fed_by
 feed_unchanged t season room piece r e = ap (λ (v : Verdict). (fed_by v season (with_bytes t (gathered_in season room) piece)).season) e
@@ -278,19 +277,19 @@ pub report_left : (tally : Tally) (text : List ℕ) → Left (room_verdict (repo
 report_left tally text = text_left (report_text tally) text
 
 -- a refused scan or close gives back the state as it was, a refused start one of zeros
-pub scan_unchanged : (c : Cache) (id : List ℕ) (second server : ℕ) (r : Refusal) → scan_verdict c id second server ≡ Refused r
+pub scan_unchanged : (c : Cache) (id : List ℕ) (second server : ℕ) (r : Refusal) → scan_verdict c id second server ≡ Err r
     → (scanned c id second server).cache ≡ c
 unfolding scanned scanned_by
 scan_unchanged c id second server r e = ap (λ (v : Verdict). (scanned_by v c second server).cache) e
 
-pub close_unchanged : (c : Cache) (r : Refusal) → close_verdict c ≡ Refused r → (closed_answer c).cache ≡ c
+pub close_unchanged : (c : Cache) (r : Refusal) → close_verdict c ≡ Err r → (closed_answer c).cache ≡ c
 unfolding closed_answer closed_by
 close_unchanged c r e = ap (λ (v : Verdict). (closed_by v c).cache) e
 
-pub start_zeros : (o : Offer) (s : Header) (r : Refusal) → start_verdict o (setup_in s) ≡ Refused r → (started o s).cache ≡ zeros
+pub start_zeros : (o : Offer) (s : Header) (r : Refusal) → start_verdict o (setup_in s) ≡ Err r → (started o s).cache ≡ zeros
 unfolding started started_by
 start_zeros o s r e = ap (λ (v : Verdict). (started_by v o.tariff.table s).cache) e
 
-pub log_start_zeros : (t : Tariff) (s : Header) (r : Refusal) → log_start_verdict t (setup_in s) ≡ Refused r → (started_for_log t s).cache ≡ zeros
+pub log_start_zeros : (t : Tariff) (s : Header) (r : Refusal) → log_start_verdict t (setup_in s) ≡ Err r → (started_for_log t s).cache ≡ zeros
 unfolding started_for_log started_by
 log_start_zeros t s r e = ap (λ (v : Verdict). (started_by v t.table s).cache) e

@@ -1,8 +1,7 @@
 -- The checker accepts exactly the schedules, and refuses by where copies stand, over the definitions that its contract cites.
-use Rattle.std.specs.Prelude.{true, List, ◌↔◌, ◌≡◌, refl, ℕ, suc}
+use Rattle.std.specs.Prelude.{true, List, ◌↔◌, ◌≡◌, refl, ℕ, suc, Ok}
 use Rattle.std.proofs.Math.Option.{Option}
 use Rattle.std.proofs.Common.{sym, ◌∙◌}
-use Rattle.base.specs.declared.Verdict.TheVariants.{Passed}
 use Rattle.base.specs.Refusals.{first, nth}
 use Rattle.prices.specs.Tariff.{Tariff}
 use Rattle.prices.specs.Uploads.{Taken}
@@ -17,14 +16,13 @@ use Rattle.model.specs.LogRequests.{requests_in, rates_in}
 use Rattle.model.specs.Checking.{row_count, check_cost, copy_condition, serve_condition, form_conditions}
 use Rattle.model.proofs.FlatLaws.{flat_rows_of}
 use Rattle.model.proofs.CheckingLaws.{flat_scheduled, flat_cost, unbacked, unserved}
-use Rattle.checker.specs.declared.Checked.TheVariants as answer
 use Rattle.checker.specs.Answers.{check_answer, Answered}
 use Rattle.checker.proofs.Accepts.{answers_cost}
 
 -- it answers a cost if and only if the log is accepted, the upload price, if one is given, is in range, the numbers are rows that are well formed and
 -- feasible for the log, and that is their cost
 pub check_accepts : (t : Tariff) (u : Option ℕ) (log numbers : List ℕ) (cost : ℕ)
-    → (check_answer t u log numbers ≡ answer.Cost cost) ↔ Answered t u log numbers cost
+    → (check_answer t u log numbers ≡ Ok cost) ↔ Answered t u log numbers cost
 check_accepts = answers_cost
 
 -- a list of rows, well formed and feasible for an accepted log, with its numbers and its cost
@@ -39,7 +37,7 @@ pub record ScheduleOf (t : Tariff) (u : Option ℕ) (log numbers : List ℕ) (co
 
 -- THE CHECKER ACCEPTS exactly the numbers of such rows
 pub accepts_schedules : (t : Tariff) (u : Option ℕ) (log numbers : List ℕ) (cost : ℕ)
-    → (check_answer t u log numbers ≡ answer.Cost cost) ↔ ScheduleOf t u log numbers cost
+    → (check_answer t u log numbers ≡ Ok cost) ↔ ScheduleOf t u log numbers cost
 unfolding check_cost row_count
 accepts_schedules t u log numbers cost = (λ e. to ((check_accepts t u log numbers cost).0 e), λ s. (check_accepts t u log numbers cost).1 (from s))
   where
@@ -70,7 +68,7 @@ accepts_schedules t u log numbers cost = (λ e. to ((check_accepts t u log numbe
 pub schedule_accepted : (t : Tariff) (u : Option ℕ) (log : List ℕ) (rows : List Row) → Accepted t log → Taken u
     → well_formed (server_count_of log) (request_count log) ((requests_in log).time (request_count log)) rows ≡ true
     → Feasible (rates_in t u log) (requests_in log) (request_count log) rows
-    → check_answer t u log (flat rows) ≡ answer.Cost (cost_of (rates_in t u log) rows)
+    → check_answer t u log (flat rows) ≡ Ok (cost_of (rates_in t u log) rows)
 schedule_accepted t u log rows accepted taken formed feasible =
     (accepts_schedules t u log (flat rows) (cost_of (rates_in t u log) rows)).1
     (record { log_accepted = accepted; price_taken = taken; rows = rows; numbers_are = refl; formed = formed; feasible = feasible; cost_is = refl })
@@ -84,5 +82,5 @@ pub record ByStanding (count : ℕ) (q : Requests) (numbers : List ℕ) : Type 0
       → ((nth (serve_condition count q numbers i) 0).holds ≡ true) ↔ (Stands (q.server 0) (rows_of numbers) (q.server (suc i)) (q.time (suc i)) → ⊥)
 
 -- they do wherever none of 14 to 16 holds, which come before them
-pub by_standing : (p : Rates) (count : ℕ) (q : Requests) (n : ℕ) (numbers : List ℕ) → first (form_conditions p count q n numbers) ≡ Passed → ByStanding count q numbers
+pub by_standing : (p : Rates) (count : ℕ) (q : Requests) (n : ℕ) (numbers : List ℕ) → first (form_conditions p count q n numbers) ≡ Ok tt → ByStanding count q numbers
 by_standing p count q n numbers e = record { seventeen = unbacked p count q n numbers e; eighteen = unserved p count q n numbers e }

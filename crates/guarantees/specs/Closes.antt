@@ -1,13 +1,11 @@
 -- The close (02's Req 02): what it answers in any state, and after a list of calls how that stands to the least cost of the requests taken.
-use Rattle.std.specs.Prelude.{true, List, ◌≡◌, ℕ, ◌+◌, ◌*◌, ◌≤◌, ◌<◌}
+use Rattle.std.specs.Prelude.{true, List, ◌≡◌, ℕ, ◌+◌, ◌*◌, ◌≤◌, ◌<◌, Ok}
+use Rattle.base.specs.Refusals.{Verdict}
 use Rattle.std.proofs.Common.{ap, arith}
-use Rattle.base.specs.declared.Verdict.{Verdict}
-use Rattle.base.specs.declared.Verdict.TheVariants.{Passed}
 use Rattle.prices.specs.Prices.{prices_of, window}
 use Rattle.prices.specs.Tariff.{Tariff, Given}
 use Rattle.request_log.specs.declared.Header.{Header}
 use Rattle.online.specs.declared.Cache.{Cache}
-use Rattle.online.specs.declared.CloseOutcome.TheVariants as close'
 use Rattle.online.specs.Rules.{window_of, copy_at, use_at, running, remaining, closing, shut}
 use Rattle.online.specs.Answers.{close_verdict, closed_by, closed_answer}
 use Rattle.online.specs.Passed.{close_passed}
@@ -22,7 +20,7 @@ use Rattle.guarantees.specs.Demand3.{Ready, ready_fresh}
 -- a close that is not refused, in any state
 pub record Closing (c : Cache) : Type 0 where
   -- it answers the closing cost, and gives back the same state, closed
-  pub answers : closed_answer c ≡ record { cache = shut c; outcome = close'.Cost (closing c) }
+  pub answers : closed_answer c ≡ record { cache = shut c; outcome = Ok (closing c) }
   -- of the last server's copy a whole window is left, of a copy at its last second nothing, and of none more than a window
   pub last_whole : remaining c c.last ≡ window_of c
   pub at_its_end : (y : ℕ) → copy_at c y ≡ true → use_at c y + window_of c ≡ c.second → remaining c y ≡ 0
@@ -32,7 +30,7 @@ pub record Closing (c : Cache) : Type 0 where
   pub most : closing c ≤ c.prices.hold * 256000000 + c.prices.transfer * 2112
 
 -- THE CLOSE OF ANY STATE
-pub close_answers : (c : Cache) → close_verdict c ≡ Passed → Closing c
+pub close_answers : (c : Cache) → close_verdict c ≡ Ok tt → Closing c
 unfolding closed_answer closed_by
 close_answers c e =
     let s = (close_passed c e).0 in
@@ -50,7 +48,7 @@ pub record ClosedWithin (t : Tariff) (s : Header) (c : Cache) (calls : List Call
   -- demand 3's claim of the calls before it: its least cost is that of the requests taken
   pub claimed : Claim t.table s c calls
   -- it answers the closing cost, which is at least the running cost, and at most three times the least cost and one transfer price
-  pub answers : (closed_answer (final t.table s c calls)).outcome ≡ close'.Cost (closing (final t.table s c calls))
+  pub answers : (closed_answer (final t.table s c calls)).outcome ≡ Ok (closing (final t.table s c calls))
   pub no_less : running (final t.table s c calls) ≤ closing (final t.table s c calls)
   pub no_more : closing (final t.table s c calls) ≤ 3 * claimed.least + (prices t.table s c calls).transfer
 

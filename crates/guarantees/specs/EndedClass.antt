@@ -1,11 +1,10 @@
 -- Class 7 of the built-in table is no longer sold (02's Req 10): who is refused with 43, and what its logs keep.
-use Rattle.std.specs.Prelude.{true, false, List, ◌⊎◌, ◌↔◌, ◌≡◌, refl, ℕ, ◌≤◌, ◌<◌, eqb, length, get_or}
+use Rattle.std.specs.Prelude.{true, false, List, ◌⊎◌, ◌↔◌, ◌≡◌, refl, ℕ, ◌≤◌, ◌<◌, eqb, length, get_or, Err}
 use Rattle.std.proofs.Common.{inl, inr, arith, eqb-true, eq-eqb}
 use Rattle.std.proofs.Math.Option.{Option}
 use Rattle.std.proofs.Math.Option as option
 use Rattle.base.specs.Choice.{not_both, true_or_false}
 use Rattle.base.specs.Refusals.{Never}
-use Rattle.base.specs.declared.Verdict.TheVariants.{Refused}
 use Rattle.prices.specs.Prices.{priced, classes}
 use Rattle.prices.specs.PriceLaws.{judged_never}
 use Rattle.prices.specs.Tariff.{Tariff, built_in, price_file, Given, none, file}
@@ -39,25 +38,25 @@ judged_43 = judged_never 43 (λ z. omega arith) (λ z. omega arith)
 -- ---- who is refused with 43
 
 -- THE WRITER says 43 of class 7 of the built-in table, whatever else it is handed, and of no other
-pub written_43 : (c : Contents) (log : ℕ) → (write_verdict built_in_offer c log ≡ Refused no_longer_sold) ↔ (c.header.«class» ≡ 7)
+pub written_43 : (c : Contents) (log : ℕ) → (write_verdict built_in_offer c log ≡ Err no_longer_sold) ↔ (c.header.«class» ≡ 7)
 written_43 c log = (to (true_or_false (eqb c.header.«class» 7)), from)
   where
-    to : (eqb c.header.«class» 7 ≡ true) ⊎ (eqb c.header.«class» 7 ≡ false) → write_verdict built_in_offer c log ≡ Refused no_longer_sold → c.header.«class» ≡ 7
+    to : (eqb c.header.«class» 7 ≡ true) ⊎ (eqb c.header.«class» 7 ≡ false) → write_verdict built_in_offer c log ≡ Err no_longer_sold → c.header.«class» ≡ 7
     to (inl e) v = eqb-true c.header.«class» 7 e
     to (inr e) v = absurd (write_never built_in_offer c log (judged_43 built_in none) e no_longer_sold v refl)
 
-    from : c.header.«class» ≡ 7 → write_verdict built_in_offer c log ≡ Refused no_longer_sold
+    from : c.header.«class» ≡ 7 → write_verdict built_in_offer c log ≡ Err no_longer_sold
     from e = write_refused built_in_offer c log refl (rw e seven) (eq-eqb c.header.«class» 7 e)
 
 -- A START too
-pub started_43 : (s : Setup) → (start_verdict built_in_offer s ≡ Refused no_longer_sold) ↔ (s.«class» ≡ 7)
+pub started_43 : (s : Setup) → (start_verdict built_in_offer s ≡ Err no_longer_sold) ↔ (s.«class» ≡ 7)
 started_43 s = (to (true_or_false (eqb s.«class» 7)), from)
   where
-    to : (eqb s.«class» 7 ≡ true) ⊎ (eqb s.«class» 7 ≡ false) → start_verdict built_in_offer s ≡ Refused no_longer_sold → s.«class» ≡ 7
+    to : (eqb s.«class» 7 ≡ true) ⊎ (eqb s.«class» 7 ≡ false) → start_verdict built_in_offer s ≡ Err no_longer_sold → s.«class» ≡ 7
     to (inl e) v = eqb-true s.«class» 7 e
     to (inr e) v = absurd (start_never built_in_offer s (judged_43 built_in none) e no_longer_sold v refl)
 
-    from : s.«class» ≡ 7 → start_verdict built_in_offer s ≡ Refused no_longer_sold
+    from : s.«class» ≡ 7 → start_verdict built_in_offer s ≡ Err no_longer_sold
     from e = start_refused built_in_offer s refl (rw e seven) (eq-eqb s.«class» 7 e)
 
 -- WITH A PRICE FILE neither ever does, whatever its bytes
@@ -94,5 +93,5 @@ pub record OldLog (log : List ℕ) : Type 0 where
   pub started : Ready built_in none (header_of log) (opened built_in log)
   pub within : (calls : List Call) → Claim classes (header_of log) (opened built_in log) calls
   -- no other is started, and it is not written again
-  pub unstarted : start_verdict built_in_offer (setup_of log) ≡ Refused no_longer_sold
-  pub unwritten : (room : ℕ) → write_verdict built_in_offer (decode log) room ≡ Refused no_longer_sold
+  pub unstarted : start_verdict built_in_offer (setup_of log) ≡ Err no_longer_sold
+  pub unwritten : (room : ℕ) → write_verdict built_in_offer (decode log) room ≡ Err no_longer_sold

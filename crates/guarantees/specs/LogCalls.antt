@@ -1,19 +1,16 @@
 -- The round trips of the log over its calls: what `write` leaves is read as it was given, and what `read` answers is written as it was, or refused with 43.
-use Rattle.std.specs.Prelude.{true, false, List, ◌++◌, ◌≡◌, refl, ℕ, ◌-◌, ◌≤◌, ◌<◌, take, replicate}
+use Rattle.std.specs.Prelude.{true, false, List, ◌++◌, ◌≡◌, refl, ℕ, ◌-◌, ◌≤◌, ◌<◌, take, replicate, Ok, Err}
+use Rattle.base.specs.Refusals.{Verdict}
 use Rattle.std.proofs.Math.Path.{sym, ap}
 use Rattle.std.proofs.Common.{◌∙◌, arith}
 use Rattle.std.proofs.Math.ListN.{length}
 use Rattle.std.proofs.Math.Seq.{take_at}
-use Rattle.base.specs.declared.Verdict.{Verdict}
-use Rattle.base.specs.declared.Verdict.TheVariants.{Passed, Refused}
 use Rattle.base.specs.Bytes.{AreBytes}
 use Rattle.base.specs.Lent.{lent}
 use Rattle.base.specs.RefusalLaws.{otherwise_passed}
 use Rattle.prices.specs.Offer.{Offer, Sold}
 use Rattle.request_log.specs.declared.Header.{Header}
 use Rattle.request_log.specs.declared.Decoded.{Decoded}
-use Rattle.request_log.specs.declared.ReadOutcome.TheVariants as read
-use Rattle.request_log.specs.declared.Written.TheVariants as write
 use Rattle.request_log.specs.Fields.{class_of, header_of, request_count, length_for, seconds_of, servers_of}
 use Rattle.request_log.specs.Conditions.{no_longer_sold, Accepted}
 use Rattle.request_log.specs.Contents.{Contents, contents, decode, encode}
@@ -27,35 +24,35 @@ use Rattle.request_log.specs.EndedLaws.{write_refused}
 
 -- the reader's answer where a log is accepted: this header and so many requests
 abbrev pub requests_read : Header → ℕ → Decoded
-requests_read h n = record { header = h; outcome = read.Requests n }
+requests_read h n = record { header = h; outcome = Ok n }
 
 -- a length is answered where the verdict passed
-length_passed : (v : Verdict) (c : Contents) (n : ℕ) → written v c ≡ write.Length n → (v ≡ Passed) × (n ≡ length_for (length c.seconds))
+length_passed : (v : Verdict) (c : Contents) (n : ℕ) → written v c ≡ Ok n → (v ≡ Ok tt) × (n ≡ length_for (length c.seconds))
 unfolding written
-length_passed Passed c n e = (refl, let d : n ≡ length_for (length c.seconds) = cc in d)
-length_passed (Refused r) c n e = let z : ◌≡◌ {A = ℕ} 0 1 = cc in absurd (omega arith)
+length_passed (Ok _) c n e = (refl, let d : n ≡ length_for (length c.seconds) = cc in d)
+length_passed (Err r) c n e = let z : ◌≡◌ {A = ℕ} 0 1 = cc in absurd (omega arith)
 
 -- and requests are
 requests_passed : (v : Verdict) (log : List ℕ) (h : Header) (n : ℕ) → decoded v log ≡ requests_read h n
-    → (v ≡ Passed) × (h ≡ header_of log) × (n ≡ request_count log)
+    → (v ≡ Ok tt) × (h ≡ header_of log) × (n ≡ request_count log)
 unfolding decoded
-requests_passed Passed log h n e =
-    let o : read.Requests (request_count log) ≡ read.Requests n = ap (λ (d : Decoded). d.outcome) e in
+requests_passed (Ok _) log h n e =
+    let o : Ok (request_count log) ≡ Ok n = ap (λ (d : Decoded). d.outcome) e in
     let m : n ≡ request_count log = cc in
     (refl, sym (ap (λ (d : Decoded). d.header) e), m)
-requests_passed (Refused r) log h n e =
-    let o : read.Refused r ≡ read.Requests n = ap (λ (d : Decoded). d.outcome) e in
+requests_passed (Err r) log h n e =
+    let o : Err r ≡ Ok n = ap (λ (d : Decoded). d.outcome) e in
     let z : ◌≡◌ {A = ℕ} 0 1 = cc in
     absurd (omega arith)
 
 -- an answer and zeros after it
-given : (v : Verdict) (answer entry : List ℕ) → v ≡ Passed → lent v answer entry ≡ answer ++ replicate (length entry - length answer) 0
+given : (v : Verdict) (answer entry : List ℕ) → v ≡ Ok tt → lent v answer entry ≡ answer ++ replicate (length entry - length answer) 0
 unfolding lent
 given v answer entry e = rw e
 
 -- `write` was handed a header, seconds and servers, and answered the length n
 module _ (o : Offer) (h : Header) (seconds servers log : List ℕ) (n : ℕ) (sixteen : length h.id ≡ 16)
-    (wrote : written (write_verdict o (contents h seconds servers) (length log)) (contents h seconds servers) ≡ write.Length n) where
+    (wrote : written (write_verdict o (contents h seconds servers) (length log)) (contents h seconds servers) ≡ Ok n) where
   -- the first n bytes of what it left
   abbrev bytes_left : List ℕ
   bytes_left = take n (log_left o (contents h seconds servers) log)
@@ -64,7 +61,7 @@ module _ (o : Offer) (h : Header) (seconds servers log : List ℕ) (n : ℕ) (si
   proper = (write_passed o (contents h seconds servers) (length log) (length_passed _ _ n wrote).0).1
 
   -- the price file was not refused, and has the class
-  judged : (o.tariff.judged ≡ Passed) × (h.«class» < length o.tariff.table)
+  judged : (o.tariff.judged ≡ Ok tt) × (h.«class» < length o.tariff.table)
   unfolding write_verdict
   judged =
       let p = (length_passed _ _ n wrote).0 in
@@ -87,7 +84,7 @@ module _ (o : Offer) (h : Header) (seconds servers log : List ℕ) (n : ℕ) (si
   written_read seconds' servers' p q =
       let c = contents h seconds servers in
       let count = encode_count c (omega (arith, proper.requests_most)) in
-      let v : read_verdict o.tariff (encode c) (length seconds') (length servers') ≡ Passed =
+      let v : read_verdict o.tariff (encode c) (length seconds') (length servers') ≡ (Ok tt) =
       read_passes o.tariff (encode c) _ _ (encode_accepted o.tariff c judged.0 judged.1 proper sixteen) (omega arith) (omega arith) in
       rw bytes_are (
         rw (v, encode_header c sixteen, count),
@@ -125,7 +122,7 @@ module _ (o : Offer) (bytes seconds servers : List ℕ) (h : Header) (n : ℕ) (
 
   -- if its class has not ended: written into a list that is long enough, they give the length of the bytes, and the list holds the bytes, then zeros
   pub read_written : o.ended h.«class» ≡ false → (log : List ℕ) → length bytes ≤ length log
-      → (written (write_verdict o contents_read (length log)) contents_read ≡ write.Length (length bytes))
+      → (written (write_verdict o contents_read (length log)) contents_read ≡ Ok (length bytes))
       × (log_left o contents_read log ≡ bytes ++ replicate (length log - length bytes) 0)
   unfolding written decode header_of
   read_written going log l =
@@ -133,15 +130,15 @@ module _ (o : Offer) (bytes seconds servers : List ℕ) (h : Header) (n : ℕ) (
       let t = o.tariff in
       let long : length_for (length (seconds_of bytes)) ≡ length bytes = ap length_for (seconds_length bytes) ∙ sym (accepted_sound t bytes a).length_is in
       let sold : Sold o (class_of bytes) = record { listed = accepted_class t bytes a; unended = ap o.ended (sym same) ∙ going } in
-      let w : write_verdict o (decode bytes) (length log) ≡ Passed = write_passes o (decode bytes) _ (accepted_judged t bytes a) sold (decode_proper t bytes a) (omega arith) in
+      let w : write_verdict o (decode bytes) (length log) ≡ (Ok tt) = write_passes o (decode bytes) _ (accepted_judged t bytes a) sold (decode_proper t bytes a) (omega arith) in
       rw contents_are (rw (w, long), given _ _ log w ∙ rw (encode_decode t bytes a are_bytes))
 
   -- if it has ended: they are refused with 43, and the list is as it was
   pub read_unwritten : o.ended h.«class» ≡ true → (log : List ℕ)
-      → (written (write_verdict o contents_read (length log)) contents_read ≡ write.Refused no_longer_sold) × (log_left o contents_read log ≡ log)
+      → (written (write_verdict o contents_read (length log)) contents_read ≡ Err no_longer_sold) × (log_left o contents_read log ≡ log)
   unfolding written lent
   read_unwritten gone log =
       let (a, same) = accepted in
-      let w : write_verdict o contents_read (length log) ≡ Refused no_longer_sold =
+      let w : write_verdict o contents_read (length log) ≡ Err no_longer_sold =
       write_refused o contents_read (length log) (accepted_judged o.tariff bytes a) (rw same (accepted_class o.tariff bytes a)) gone in
       rw w (refl, refl)

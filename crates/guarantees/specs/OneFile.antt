@@ -1,15 +1,15 @@
 -- A cache serves one file (02's Req 06): a scan that comes with another id is refused with 39, and leaves no trace.
-use Rattle.std.specs.Prelude.{true, false, not, ◌≢◌, ◌↔◌, ◌≡◌, refl, ℕ, zero, suc, ◌≤◌, ◌<◌, eqb, ltb}
+use Rattle.std.specs.Prelude.{true, false, not, ◌≢◌, ◌↔◌, ◌≡◌, refl, ℕ, zero, suc, ◌≤◌, ◌<◌, eqb, ltb, Err}
+use Rattle.base.specs.declared.reasons.Reason.TheVariants as reason
 use mathlib.Core.List.{List, [], Memᴰ}
 use Rattle.std.proofs.Common.{ap, arith, leb-false, ltb-false, le-ltb, ne_eqb}
 use Rattle.std.proofs.lemmas.Bool.{eqb-false, not-true, lt-leb}
 use Rattle.base.specs.Choice.{not_both}
 use Rattle.base.specs.ChoiceLaws.{either_false, neither_of}
 use Rattle.base.specs.SameLaws.{same_unequal, unequal_same}
-use Rattle.base.specs.Refusals.{Condition, nth, reason}
+use Rattle.base.specs.Refusals.{Condition, nth, refusal}
 use Rattle.base.specs.RefusalLaws.{first_refused}
 use Rattle.base.specs.declared.Refusal.{Refusal}
-use Rattle.base.specs.declared.Verdict.TheVariants.{Refused}
 use Rattle.prices.specs.Tariff.{Tariff, Given}
 use Rattle.request_log.specs.declared.Header.{Header}
 use Rattle.online.specs.declared.Cache.{Cache}
@@ -19,10 +19,11 @@ use Rattle.bounds.specs.Calls.{Call, run, of_file, Request}
 use Rattle.bounds.specs.Progress.{begun, taken}
 use Rattle.bounds.proofs.OtherFiles.{run_own, taken_unmixed}
 use Rattle.guarantees.specs.Demand3.{Ready, online_within_three}
+use Rattle.base.specs.Reasons.{number}
 
 -- 39
 abbrev pub another_file : Refusal
-another_file = record { number = 39; place = 0 }
+another_file = record { reason = reason.OtherFile; place = 0 }
 
 -- a scan of another file that none of 11, 12, 32 and 33 refuses
 pub record OfAnother (c : Cache) (id : List ℕ) (second server : ℕ) : Type 0 where
@@ -34,14 +35,14 @@ pub record OfAnother (c : Cache) (id : List ℕ) (second server : ℕ) : Type 0 
   pub other : id ≢ c.id
 
 -- A SCAN IS REFUSED WITH 39 exactly if it is one, of a full state and at any second too
-pub scanned_39 : (c : Cache) (id : List ℕ) (second server : ℕ) → (scan_verdict c id second server ≡ Refused another_file) ↔ OfAnother c id second server
+pub scanned_39 : (c : Cache) (id : List ℕ) (second server : ℕ) → (scan_verdict c id second server ≡ Err another_file) ↔ OfAnother c id second server
 unfolding scan_verdict scan_conditions
 scanned_39 c id second server = (to, from)
   where
     cs : List Condition
     cs = scan_conditions c id second server
 
-    at : (i : ℕ) → ((j : ℕ) → j < i → (nth cs j).holds ≡ false) → (nth cs i).holds ≡ true → reason (nth cs i) ≡ another_file → OfAnother c id second server
+    at : (i : ℕ) → ((j : ℕ) → j < i → (nth cs j).holds ≡ false) → (nth cs i).holds ≡ true → refusal (nth cs i) ≡ another_file → OfAnother c id second server
     at (suc (suc (suc (suc zero)))) b m g =
         let n = either_false (eqb second 0) (ltb 4000000 second) (b 1 (omega arith)) in
         record {
@@ -52,12 +53,12 @@ scanned_39 c id second server = (to, from)
           unclosed = b 3 (omega arith);
           other = same_unequal id c.id (not-true _ m);
         }
-    at zero b m g = absurd (omega (arith, ap (λ (r : Refusal). r.number) g))
-    at (suc zero) b m g = absurd (omega (arith, ap (λ (r : Refusal). r.number) g))
-    at (suc (suc zero)) b m g = absurd (omega (arith, ap (λ (r : Refusal). r.number) g))
-    at (suc (suc (suc zero))) b m g = absurd (omega (arith, ap (λ (r : Refusal). r.number) g))
-    at (suc (suc (suc (suc (suc zero))))) b m g = absurd (omega (arith, ap (λ (r : Refusal). r.number) g))
-    at (suc (suc (suc (suc (suc (suc zero)))))) b m g = absurd (omega (arith, ap (λ (r : Refusal). r.number) g))
+    at zero b m g = absurd (omega (arith, ap (λ (r : Refusal). number r.reason) g))
+    at (suc zero) b m g = absurd (omega (arith, ap (λ (r : Refusal). number r.reason) g))
+    at (suc (suc zero)) b m g = absurd (omega (arith, ap (λ (r : Refusal). number r.reason) g))
+    at (suc (suc (suc zero))) b m g = absurd (omega (arith, ap (λ (r : Refusal). number r.reason) g))
+    at (suc (suc (suc (suc (suc zero))))) b m g = absurd (omega (arith, ap (λ (r : Refusal). number r.reason) g))
+    at (suc (suc (suc (suc (suc (suc zero)))))) b m g = absurd (omega (arith, ap (λ (r : Refusal). number r.reason) g))
     at (suc (suc (suc (suc (suc (suc (suc i))))))) b m g = absurd (not_both m refl)
 
     passed : OfAnother c id second server → (j : ℕ) → j < 4 → (nth cs j).holds ≡ false
@@ -67,10 +68,10 @@ scanned_39 c id second server = (to, from)
     passed a (suc (suc (suc zero))) l = a.unclosed
     passed a (suc (suc (suc (suc j)))) l = absurd (omega arith)
 
-    to : scan_verdict c id second server ≡ Refused another_file → OfAnother c id second server
+    to : scan_verdict c id second server ≡ Err another_file → OfAnother c id second server
     to e = let f = (first_refused cs another_file).0 e in at f.index f.before f.met f.gives
 
-    from : OfAnother c id second server → scan_verdict c id second server ≡ Refused another_file
+    from : OfAnother c id second server → scan_verdict c id second server ≡ Err another_file
     from a =
         (first_refused cs another_file).1
         (record { index = 4; before = passed a; met = ap not (unequal_same id c.id a.other); gives = refl })

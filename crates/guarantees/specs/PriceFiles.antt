@@ -1,8 +1,7 @@
 -- Price files (02's Req 05): which load, that their refusals come before all others, and demand 3 with Req 02's bound for every tariff in one statement.
-use Rattle.std.specs.Prelude.{List, ◌↔◌, ◌≡◌, refl, ℕ, ◌≤◌, ◌<◌, length, take}
+use Rattle.std.specs.Prelude.{List, ◌↔◌, ◌≡◌, refl, ℕ, ◌≤◌, ◌<◌, length, take, Ok, Err}
 use Rattle.std.proofs.Math.Option.{Option}
 use Rattle.base.specs.declared.Refusal.{Refusal}
-use Rattle.base.specs.declared.Verdict.TheVariants.{Passed, Refused}
 use Rattle.prices.specs.Prices.{prices_of, InRange}
 use Rattle.prices.specs.PriceLaws.{given_priced}
 use Rattle.prices.specs.PriceFile.{built_in_bytes, Loads}
@@ -21,7 +20,6 @@ use Rattle.model.specs.LogRequests.{prices_in}
 use Rattle.model.proofs.LogRequestLaws.{log_priced}
 use Rattle.checker.specs.Answers.{check_verdict_of}
 use Rattle.planner.specs.Answers.{plan_verdict, least_verdict}
-use Rattle.quote.specs.declared.Quoted.TheVariants as quote'
 use Rattle.quote.specs.Answers.{quoted, quote_answer}
 use Rattle.online.specs.declared.Cache.{Cache}
 use Rattle.online.specs.Answers.{start_verdict, log_start_verdict}
@@ -34,11 +32,11 @@ use Rattle.guarantees.specs.Demand3.{PlannedBest, Ready}
 use Rattle.guarantees.specs.Closes.{ClosedWithin}
 
 -- THE FILES THAT LOAD: count 1 to 256, offset 4, length to the count, every price from 1 to 1,000,000
-pub file_loads : (file : List ℕ) → ((price_file file).judged ≡ Passed) ↔ Loads file
+pub file_loads : (file : List ℕ) → ((price_file file).judged ≡ Ok tt) ↔ Loads file
 file_loads = loads_exactly
 
 -- every class of what loads, and of the built-in table, is in range, and so are the prices of each log accepted with it
-pub class_in_range : (t : Tariff) → Given t → t.judged ≡ Passed → (class : ℕ) → class < length t.table → InRange (prices_of t.table class)
+pub class_in_range : (t : Tariff) → Given t → t.judged ≡ Ok tt → (class : ℕ) → class < length t.table → InRange (prices_of t.table class)
 class_in_range = given_priced
 
 pub log_in_range : (t : Tariff) → Given t → (log : List ℕ) → Accepted t log → InRange (prices_in t log)
@@ -50,19 +48,19 @@ built_in_as_file = built_in_file built_in_bytes refl
 
 -- a refused file refuses each call, whatever else the call is given
 pub record FirstOfAll (file : List ℕ) (r : Refusal) : Type 0 where
-  pub log : (log : List ℕ) → verdict_of (price_file file) log ≡ Refused r
-  pub read : (log : List ℕ) (seconds servers : ℕ) → read_verdict (price_file file) log seconds servers ≡ Refused r
-  pub write : (c : Contents) (log : ℕ) → write_verdict (file_offer file) c log ≡ Refused r
-  pub check : (u : Option ℕ) (log rows : List ℕ) → check_verdict_of (price_file file) u log rows ≡ Refused r
-  pub plan : (u : Option ℕ) (log : List ℕ) (marks rows : ℕ) → plan_verdict (price_file file) u log marks rows ≡ Refused r
-  pub least : (u : Option ℕ) (log : List ℕ) (costs : ℕ) → least_verdict (price_file file) u log costs ≡ Refused r
-  pub quote : (log : List ℕ) → quote_answer (price_file file) log ≡ quote'.Refused r
-  pub start : (s : Setup) → start_verdict (file_offer file) s ≡ Refused r
-  pub log_start : (s : Setup) → log_start_verdict (price_file file) s ≡ Refused r
-  pub sheet : (log : List ℕ) (text : ℕ) → sheet_verdict (price_file file) log text ≡ Refused r
+  pub log : (log : List ℕ) → verdict_of (price_file file) log ≡ Err r
+  pub read : (log : List ℕ) (seconds servers : ℕ) → read_verdict (price_file file) log seconds servers ≡ Err r
+  pub write : (c : Contents) (log : ℕ) → write_verdict (file_offer file) c log ≡ Err r
+  pub check : (u : Option ℕ) (log rows : List ℕ) → check_verdict_of (price_file file) u log rows ≡ Err r
+  pub plan : (u : Option ℕ) (log : List ℕ) (marks rows : ℕ) → plan_verdict (price_file file) u log marks rows ≡ Err r
+  pub least : (u : Option ℕ) (log : List ℕ) (costs : ℕ) → least_verdict (price_file file) u log costs ≡ Err r
+  pub quote : (log : List ℕ) → quote_answer (price_file file) log ≡ Err r
+  pub start : (s : Setup) → start_verdict (file_offer file) s ≡ Err r
+  pub log_start : (s : Setup) → log_start_verdict (price_file file) s ≡ Err r
+  pub sheet : (log : List ℕ) (text : ℕ) → sheet_verdict (price_file file) log text ≡ Err r
 
 -- THE FILE COMES FIRST
-pub file_first : (file : List ℕ) (r : Refusal) → (price_file file).judged ≡ Refused r → FirstOfAll file r
+pub file_first : (file : List ℕ) (r : Refusal) → (price_file file).judged ≡ Err r → FirstOfAll file r
 unfolding verdict_of read_verdict write_verdict check_verdict_of plan_verdict least_verdict quote_answer quoted start_verdict log_start_verdict sheet_verdict
 file_first file r e =
     record {

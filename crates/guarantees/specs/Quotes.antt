@@ -1,12 +1,10 @@
 -- A quote within twice (02's Req 07): who is quoted and who is refused, and for every table that loads and every accepted log, cut or whole: neither part of
 -- the quote exceeds the least cost, and the quote lies between it and its double.
-use Rattle.std.specs.Prelude.{List, ◌++◌, ◌↔◌, ◌≡◌, refl, ℕ, ◌*◌, ◌≤◌}
+use Rattle.std.specs.Prelude.{List, ◌++◌, ◌↔◌, ◌≡◌, refl, ℕ, ◌*◌, ◌≤◌, Ok, Err}
 use Rattle.std.proofs.Math.Option.{none}
 use Rattle.std.proofs.Common.{arith}
 use Rattle.base.specs.declared.Refusal.{Refusal}
-use Rattle.base.specs.declared.Verdict.{Verdict}
-use Rattle.base.specs.declared.Verdict.TheVariants.{Passed, Refused}
-use Rattle.base.specs.Refusals.{First}
+use Rattle.base.specs.Refusals.{First, Verdict}
 use Rattle.prices.specs.Tariff.{Tariff, Given, conditions_of}
 use Rattle.request_log.specs.Fields.{request_count, server_count_of}
 use Rattle.request_log.specs.Conditions.{Accepted, verdict_of, log_conditions}
@@ -17,29 +15,28 @@ use Rattle.model.proofs.LogRequestLaws.{log_rising, log_within}
 use Rattle.model.specs.Least.{Least}
 use Rattle.model.specs.Quote.{sum_part, hold_part, quote_of}
 use Rattle.model.proofs.QuoteLaws.{sum_below, hold_below, quote_above}
-use Rattle.quote.specs.declared.Quoted.TheVariants as answer
 use Rattle.quote.specs.Answers.{quote_in, quoted, quote_answer}
 use Rattle.guarantees.specs.Calls.{quote_decided}
 
 -- a quote is answered where the verdict passed, a refusal where it is refused
-cost_passed : (v : Verdict) (q c : ℕ) → quoted v q ≡ answer.Cost c → (v ≡ Passed) × (c ≡ q)
+cost_passed : (v : Verdict) (q c : ℕ) → quoted v q ≡ Ok c → (v ≡ Ok tt) × (c ≡ q)
 unfolding quoted
-cost_passed Passed q c e = (refl, cc)
-cost_passed (Refused r) q c e = absurd (let z : ◌≡◌ {A = ℕ} 0 1 = cc in omega arith)
+cost_passed (Ok _) q c e = (refl, cc)
+cost_passed (Err r) q c e = absurd (let z : ◌≡◌ {A = ℕ} 0 1 = cc in omega arith)
 
-refused_with : (v : Verdict) (q : ℕ) (r : Refusal) → quoted v q ≡ answer.Refused r → v ≡ Refused r
+refused_with : (v : Verdict) (q : ℕ) (r : Refusal) → quoted v q ≡ Err r → v ≡ Err r
 unfolding quoted
-refused_with Passed q r e = absurd (let z : ◌≡◌ {A = ℕ} 0 1 = cc in omega arith)
-refused_with (Refused s) q r e = cc
+refused_with (Ok _) q r e = absurd (let z : ◌≡◌ {A = ℕ} 0 1 = cc in omega arith)
+refused_with (Err s) q r e = cc
 
 -- WHO IS QUOTED: exactly the accepted logs, with their quote
-pub quoted_exactly : (t : Tariff) (log : List ℕ) (c : ℕ) → (quote_answer t log ≡ answer.Cost c) ↔ (Accepted t log × (c ≡ quote_in t log))
+pub quoted_exactly : (t : Tariff) (log : List ℕ) (c : ℕ) → (quote_answer t log ≡ Ok c) ↔ (Accepted t log × (c ≡ quote_in t log))
 unfolding quote_answer quoted Accepted
 quoted_exactly t log c = (cost_passed (verdict_of t log) (quote_in t log) c, λ (a, e). rw (a, e))
 
 -- WHO IS REFUSED: by the first condition that holds, the price file's before the log's
 pub refused_exactly : (t : Tariff) (g : Given t) (log : List ℕ) (r : Refusal)
-    → (quote_answer t log ≡ answer.Refused r) ↔ First (conditions_of g ++ log_conditions t.table log) r
+    → (quote_answer t log ≡ Err r) ↔ First (conditions_of g ++ log_conditions t.table log) r
 unfolding quote_answer quoted
 refused_exactly t g log r = (
   λ e. ((quote_decided t g log).refused r).0 (refused_with (verdict_of t log) (quote_in t log) r e),
@@ -54,7 +51,7 @@ empty_quoted t log e = rw e (omega arith)
 -- a log's quote, and its least cost
 pub record WithinTwice (t : Tariff) (log : List ℕ) (least : ℕ) : Type 0 where
   -- the quote is what the call answers
-  pub answered : quote_answer t log ≡ answer.Cost (quote_in t log)
+  pub answered : quote_answer t log ≡ Ok (quote_in t log)
   -- `least` is the least cost of all its requests
   pub is_least : Least (rates_in t none log) (server_count_of log) (requests_in log) (request_count log) least
   -- neither part exceeds it

@@ -1,7 +1,6 @@
 -- The round trips of the log: what is written is read back, what was read is written as it was, if its class is sold, and a cut log says the first requests.
-use Rattle.std.specs.Prelude.{List, ◌↔◌, ◌≡◌, ℕ, ◌≤◌, ◌<◌, length}
+use Rattle.std.specs.Prelude.{List, ◌↔◌, ◌≡◌, ℕ, ◌≤◌, ◌<◌, length, Ok}
 use Rattle.base.specs.Bytes.{AreBytes}
-use Rattle.base.specs.declared.Verdict.TheVariants.{Passed}
 use Rattle.prices.specs.Tariff.{Tariff}
 use Rattle.prices.specs.Offer.{Offer, Sold}
 use Rattle.request_log.specs.Fields.{request_count}
@@ -17,7 +16,7 @@ pub taken_in_range : (o : Offer) (c : Contents) → Writable o c ↔ (Sold o c.h
 taken_in_range = writable_proper
 
 -- the log that says what is in range is accepted, where its price file is not refused and has its class
-pub written_accepted : (t : Tariff) (c : Contents) → t.judged ≡ Passed → c.header.«class» < length t.table → Proper c → Sixteen c → Accepted t (encode c)
+pub written_accepted : (t : Tariff) (c : Contents) → t.judged ≡ Ok tt → c.header.«class» < length t.table → Proper c → Sixteen c → Accepted t (encode c)
 written_accepted = encode_accepted
 
 -- it is made of bytes, as class and id are

@@ -1,10 +1,9 @@
 -- The season (02's Req 12). The input may come in any pieces: none is refused, and the report is that of the whole. Of the logs met each is counted once, and the totals are the
 -- sums over them; the total running cost is at least the total least cost and at most three times that, by any table; `worst` names the first log of the largest ratio. By the built-in
 -- table every total fits 64 bits and every cost 32, so the products that ratios are compared by fit 64.
-use Rattle.std.specs.Prelude.{List, ◌↔◌, ◌≢◌, ◌≡◌, refl, ℕ, suc, ◌+◌, ◌*◌, ◌^◌, ◌≤◌, ◌<◌, length, take, replicate}
+use Rattle.std.specs.Prelude.{List, ◌↔◌, ◌≢◌, ◌≡◌, refl, ℕ, suc, ◌+◌, ◌*◌, ◌^◌, ◌≤◌, ◌<◌, length, take, replicate, Ok, Err}
 use Rattle.std.proofs.Common.{ap, ◌∙◌, arith}
 use Rattle.std.proofs.lemmas.List.{length-replicate}
-use Rattle.base.specs.declared.Verdict.TheVariants.{Passed, Refused}
 use Rattle.prices.specs.PriceLaws.{given_priced}
 use Rattle.prices.specs.Tariff.{Tariff, Given, built_in}
 use Rattle.request_log.specs.Sizes.{log_room}
@@ -61,7 +60,7 @@ pub record Counted (t : Tariff) (s : List ℕ) : Type 0 where
   pub all : (season_of t s).accepted + total (λ c. c) (season_of t s).refused ≡ length (met_in t s)
   pub few : length (met_in t s) ≤ suc most_logs
 
-pub counted : (t : Tariff) → t.judged ≡ Passed → (s : List ℕ) → Counted t s
+pub counted : (t : Tariff) → t.judged ≡ Ok tt → (s : List ℕ) → Counted t s
 unfolding met_in tally_of one_too_many
 counted t j s = record { all = all_counted (met_in t s) (each_met t _ (numbered t j) (omega arith) most_logs s); few = met_few t most_logs s }
 
@@ -112,5 +111,5 @@ products = product_fits
 -- ---- 9
 
 -- THE LENGTH: the log at the front of what is left, whose header passes, is refused by 9 exactly if fewer bytes are left than its header says
-pub cut_short : (t : Tariff) (s : List ℕ) → head_verdict t s ≡ Passed → (verdict_of t (take (log_length s) s) ≡ Refused nine) ↔ (length s < total_length s)
+pub cut_short : (t : Tariff) (s : List ℕ) → head_verdict t s ≡ Ok tt → (verdict_of t (take (log_length s) s) ≡ Err nine) ↔ (length s < total_length s)
 cut_short t s e = whole.cut_short t s e

@@ -1,6 +1,6 @@
 -- Where planned transfers come from, over all prices, an upload price given or none, every home and every list of requests (02's request 03): each from the nearest holder.
 -- Which holder it is changes neither the number of rows nor their cost, and the checker takes any.
-use Rattle.std.specs.Prelude.{true, ℕ, ◌≤◌, length}
+use Rattle.std.specs.Prelude.{true, ℕ, ◌≤◌, length, Ok}
 use mathlib.Core.List.{List, Memᴰ}
 use Rattle.std.proofs.Math.Option.{Option}
 use Rattle.std.proofs.Math.Path.{◌≡◌}
@@ -21,7 +21,6 @@ use Rattle.model.proofs.LogRequestLaws.{log_rising, log_within}
 use Rattle.model.proofs.RowsCost.{rows_as_many}
 use Rattle.model.proofs.MarkingRows.{rows_from_realize}
 use Rattle.model.proofs.PlanLaws.{plan_planned}
-use Rattle.checker.specs.declared.Checked.TheVariants as answer
 use Rattle.checker.specs.Answers.{check_answer}
 use Rattle.guarantees.specs.CheckerAccepts.{schedule_accepted}
 
@@ -77,7 +76,7 @@ pub any_holder_checked : (t : Tariff) (u : Option ℕ) → Taken u → (log : Li
     → Good (server_count_of log) (requests_in log) (plan (rates_in t u log) (requests_in log) (request_count log)) (request_count log) from
     → check_answer t u log
     (flat (rows_from (requests_in log) (server_count_of log) (plan (rates_in t u log) (requests_in log) (request_count log)) (request_count log) from))
-    ≡ answer.Cost (plan_cost (rates_in t u log) (requests_in log) (request_count log))
+    ≡ Ok (plan_cost (rates_in t u log) (requests_in log) (request_count log))
 any_holder_checked t u taken log a from good =
     let h = any_holder (rates_in t u log) (server_count_of log) (requests_in log) (request_count log) from (log_rising t log a) (log_within t log a) good in
-    schedule_accepted t u log _ a taken h.formed h.feasible ∙ ap answer.Cost h.costs
+    schedule_accepted t u log _ a taken h.formed h.feasible ∙ ap Ok h.costs

@@ -1,15 +1,14 @@
 -- Uploads from the ticket office (02's Req 11). What Optimality, Sources, CheckerAccepts, Calls and the planner's half of Demand3 say, they say for every
 -- upload price and for none. Here: with none all is as 01 has it; which uploads a plan has; an upload price makes no plan dearer; and who is refused
 -- with 44.
-use Rattle.std.specs.Prelude.{true, false, ◌≢◌, ◌≡◌, ℕ, ◌+◌, ◌*◌, ◌≤◌, ◌<◌}
+use Rattle.std.specs.Prelude.{true, false, ◌≢◌, ◌≡◌, ℕ, ◌+◌, ◌*◌, ◌≤◌, ◌<◌, Err}
+use Rattle.base.specs.declared.reasons.Reason.TheVariants as reason
 use mathlib.Core.List.{List, [], Memᴰ}
 use Rattle.std.proofs.Common.{inl, inr, ◌∙◌, arith}
 use Rattle.std.proofs.Math.Option.{some}
 use Rattle.std.proofs.Math.Path.{refl}
-use Rattle.base.specs.declared.Verdict.{Verdict}
-use Rattle.base.specs.declared.Verdict.TheVariants.{Refused}
 use Rattle.base.specs.Choice.{not_both, true_or_false}
-use Rattle.base.specs.Refusals.{refuse, first}
+use Rattle.base.specs.Refusals.{refuse, first, Verdict}
 use Rattle.base.specs.RefusalLaws.{first_failed}
 use Rattle.prices.specs.declared.Prices.{Prices}
 use Rattle.prices.specs.Prices.{price_outside}
@@ -113,7 +112,7 @@ uploaded p count q n = record { each = λ x τ r. go (rows_row q m n from count 
 
 -- the refusal of an upload price
 abbrev pub out_of_range : Verdict
-out_of_range = Refused (record { number = 44; place = 0 })
+out_of_range = Err (record { reason = reason.UploadPrice; place = 0 })
 
 -- each call that is given it, for a log that is accepted, whatever else it is given
 pub record PriceRefused (t : Tariff) (y : ℕ) (log : List ℕ) : Type 0 where
@@ -135,5 +134,5 @@ price_refused t y log a out =
     outside : price_outside y ≡ true
     outside = elim (true_or_false (price_outside y)) [
       | inl e ↦ e
-      | inr e ↦ absurd (out ((taken_iff (some y)).0 (first_failed (refuse 44 0 (price_outside y)) [] e)))
+      | inr e ↦ absurd (out ((taken_iff (some y)).0 (first_failed (refuse reason.UploadPrice 0 (price_outside y)) [] e)))
     ]

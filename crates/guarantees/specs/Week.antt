@@ -1,11 +1,11 @@
 -- A worked week of 01: what is handed in, what 01 and 02 say of it, and the test that the definitions say the same. Assumes nothing.
-use Rattle.std.specs.Prelude.{Bool, true, List, [], ◌∷◌, ℕ, suc, eqb, length}
+use Rattle.std.specs.Prelude.{Bool, true, List, [], ◌∷◌, ℕ, suc, eqb, length, Ok, Err, Result}
+use Rattle.base.specs.declared.Refusal.{Refusal}
+use Rattle.base.specs.Refusals.{Verdict}
 use Rattle.std.proofs.Math.Option.{Option, none, some}
 use Prim.Native.String.{String}
 use Rattle.base.specs.Choice.{pick, both}
 use Rattle.base.specs.Lists.{build, same}
-use Rattle.base.specs.declared.Verdict.{Verdict}
-use Rattle.base.specs.declared.Verdict.TheVariants.{Passed, Refused}
 use Rattle.prices.specs.Prices.{classes, prices_of}
 use Rattle.prices.specs.Tariff.{built_in}
 use Rattle.prices.specs.Offer.{built_in_offer}
@@ -18,21 +18,18 @@ use Rattle.model.specs.RowForm.{flat}
 use Rattle.model.specs.Sums.{total}
 use Rattle.model.specs.Marking.{K, S, cost}
 use Rattle.model.specs.Plan.{markings, plan, plan_cost, plan_rows}
-use Rattle.checker.specs.declared.Checked.{Checked}
-use Rattle.checker.specs.declared.Checked.TheVariants as answer
 use Rattle.checker.specs.Answers.{check_answer}
 use Rattle.planner.specs.Answers.{letter}
-use Rattle.quote.specs.declared.Quoted.{Quoted}
-use Rattle.quote.specs.declared.Quoted.TheVariants as quote
 use Rattle.quote.specs.Answers.{quote_answer}
 use Rattle.online.specs.declared.Cache.{Cache}
-use Rattle.online.specs.declared.ScanOutcome.{ScanOutcome}
-use Rattle.online.specs.declared.ScanOutcome.TheVariants as scan
+use Rattle.online.specs.declared.Service.{Service}
+use Rattle.online.specs.declared.Service.TheVariants.{Kept, Sent}
 use Rattle.online.specs.Rules.{running}
 use Rattle.online.specs.Answers.{started, scanned, closed_answer}
 use Rattle.text.specs.Lines.{ascii}
 use Rattle.live.specs.Replies.{close_cost}
 use Rattle.report.specs.Output.{output}
+use Rattle.base.specs.Reasons.{number}
 
 -- the requests of a week: what its start is given, seconds and servers
 pub record Given : Type 0 where
@@ -57,18 +54,18 @@ pub data Week : Type 0 where
 
 -- a verdict as number and place, 0 and 0 where nothing is refused
 unfoldable pub as_numbers : Verdict → List ℕ
-as_numbers Passed = 0 ∷ 0 ∷ []
-as_numbers (Refused r) = r.number ∷ r.place ∷ []
+as_numbers (Ok _) = 0 ∷ 0 ∷ []
+as_numbers (Err r) = number r.reason ∷ r.place ∷ []
 
 -- a checker's answer as numbers
-unfoldable pub answer_numbers : Checked → List ℕ
-answer_numbers (answer.Cost c) = 0 ∷ 0 ∷ c ∷ []
-answer_numbers (answer.Refused r) = r.number ∷ r.place ∷ 0 ∷ []
+unfoldable pub answer_numbers : Result ℕ Refusal → List ℕ
+answer_numbers (Ok c) = 0 ∷ 0 ∷ c ∷ []
+answer_numbers (Err r) = number r.reason ∷ r.place ∷ 0 ∷ []
 
 -- a quote's answer as numbers
-unfoldable pub quote_numbers : Quoted → List ℕ
-quote_numbers (quote.Cost c) = 0 ∷ 0 ∷ c ∷ []
-quote_numbers (quote.Refused r) = r.number ∷ r.place ∷ 0 ∷ []
+unfoldable pub quote_numbers : Result ℕ Refusal → List ℕ
+quote_numbers (Ok c) = 0 ∷ 0 ∷ c ∷ []
+quote_numbers (Err r) = number r.reason ∷ r.place ∷ 0 ∷ []
 
 -- the requests of a week
 unfoldable pub requests_given : Given → Requests
@@ -79,10 +76,10 @@ unfoldable pub rates_given : Given → Option ℕ → Rates
 rates_given g u = rates (prices_of classes g.header.«class») u
 
 -- the letter of a scan's answer; 0 for a refusal
-unfoldable pub live_letter : ScanOutcome → ℕ
-live_letter (scan.Kept cost) = letter K
-live_letter (scan.Sent x cost) = letter S
-live_letter (scan.Refused r) = 0
+unfoldable pub live_letter : Result Service Refusal → ℕ
+live_letter (Ok (Kept cost)) = letter K
+live_letter (Ok (Sent x cost)) = letter S
+live_letter (Err r) = 0
 
 -- the least cost of the first 0, 1, 2, .. requests
 unfoldable pub least_so_far : Given → List ℕ

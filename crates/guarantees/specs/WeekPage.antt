@@ -1,13 +1,13 @@
 -- The week page (02's Req 01), over the definitions that its contract cites, for every table of prices: what its figures and sums are, that they
 -- make up the plan's cost, that none passes its column's width, and what the program prints.
-use Rattle.std.specs.Prelude.{true, false, ◌⊎◌, ◌↔◌, ◌≡◌, refl, ℕ, suc, pred, ◌+◌, ◌*◌, ◌^◌, ◌≤◌, ◌<◌, leb, ltb, eqb, get_or, length, take}
+use Rattle.std.specs.Prelude.{true, false, ◌⊎◌, ◌↔◌, ◌≡◌, refl, ℕ, suc, pred, ◌+◌, ◌*◌, ◌^◌, ◌≤◌, ◌<◌, leb, ltb, eqb, get_or, length, take, Ok, Err}
+use Rattle.base.specs.declared.reasons.Reason.TheVariants as reason
 use mathlib.Core.List.{List, [], ◌∷◌, Memᴰ}
 use Rattle.std.proofs.Common.{inl, inr, sym, ap, ◌∙◌, arith, lt-ltb, le-ltb, le-leb, ltb-true, leb-true, eq-eqb, eqb-true}
 use Rattle.std.proofs.Math.Option.{none}
 use Rattle.base.specs.Choice.{pick, both, le_or_lt, true_or_false, not_both}
 use Rattle.base.specs.ChoiceLaws.{both_true, either_true}
 use Rattle.base.specs.Refusals.{first}
-use Rattle.base.specs.declared.Verdict.TheVariants.{Passed, Refused}
 use Rattle.prices.specs.Tariff.{Tariff}
 use Rattle.request_log.specs.Sizes.{log_limit}
 use Rattle.request_log.specs.Fields.{server_count_of, request_count}
@@ -75,19 +75,19 @@ pub record PageRight (t : Tariff) (log : List ℕ) : Type 0 where
   pub long : length (page_of t log) ≡ 68 * suc (server_count_of log)
 
 -- 36 exactly where an accepted log's last request is after second 604,800
-pub late : (t : Tariff) (log : List ℕ) → Accepted t log → (week_verdict t log ≡ Refused (record { number = 36; place = 0 })) ↔ (week_seconds < last_second log)
+pub late : (t : Tariff) (log : List ℕ) → Accepted t log → (week_verdict t log ≡ Err (record { reason = reason.AfterWeek; place = 0 })) ↔ (week_seconds < last_second log)
 unfolding after_week first
 late t log a = (λ e. to e (le_or_lt (last_second log) week_seconds), λ h. after_accepted t log _ a ∙ rw (lt-ltb week_seconds (last_second log) h))
   where
-    to : week_verdict t log ≡ Refused (record { number = 36; place = 0 }) → (last_second log ≤ week_seconds) ⊎ (week_seconds < last_second log) → week_seconds < last_second log
+    to : week_verdict t log ≡ Err (record { reason = reason.AfterWeek; place = 0 }) → (last_second log ≤ week_seconds) ⊎ (week_seconds < last_second log) → week_seconds < last_second log
     to e (inl h) =
-        let p : week_verdict t log ≡ Passed = after_accepted t log _ a ∙ rw (le-ltb week_seconds (last_second log) h) in
+        let p : week_verdict t log ≡ (Ok tt) = after_accepted t log _ a ∙ rw (le-ltb week_seconds (last_second log) h) in
         absurd (let z : ◌≡◌ {A = ℕ} 0 1 = cc in omega arith)
     to e (inr h) = h
 
 -- AN EMPTY LOG is a page of zeros
 pub empty : (t : Tariff) (log : List ℕ) → Accepted t log → request_count log ≡ 0
-    → (week_verdict t log ≡ Passed) × ((y d : ℕ) → cell (planned_rows t none log) y d ≡ 0)
+    → (week_verdict t log ≡ Ok tt) × ((y d : ℕ) → cell (planned_rows t none log) y d ≡ 0)
 unfolding after_week first before cell
 empty t log a e = (
   after_accepted t log _ a ∙ rw (le-ltb week_seconds (last_second log) (let z : last_second log ≡ 0 = rw e in omega (arith, z))),

@@ -1,5 +1,5 @@
 -- An accepted log's requests as calls: demand 3's claim holds of the first k of them, and bounds the running cost after all of them.
-use Rattle.std.specs.Prelude.{List, ◌≡◌, refl, leb, length, take, replicate}
+use Rattle.std.specs.Prelude.{List, ◌≡◌, refl, leb, length, take, replicate, Ok}
 use Rattle.std.proofs.Math.Option.{none}
 use Rattle.std.proofs.Math.Path.{sym, ap, ap₂}
 use Rattle.std.proofs.Common.{◌∙◌, arith, take_all, leb-true}
@@ -7,7 +7,6 @@ use Rattle.std.proofs.Math.Nat.{mul-le-mul_left}
 use Prim.Native.Nat.{ℕ, zero, suc, ◌+◌, ◌*◌, ◌^◌, ◌≤◌, ◌<◌}
 use Rattle.base.specs.Lists.{build, build_length, every, every_at}
 use Rattle.base.specs.Refusals.{first}
-use Rattle.base.specs.declared.Verdict.TheVariants.{Passed}
 use Rattle.prices.specs.declared.Prices.{Prices}
 use Rattle.prices.specs.Prices.{priced, classes, prices_of}
 use Rattle.prices.specs.PriceLaws.{Priced, classes_ranged}
@@ -25,7 +24,6 @@ use Rattle.model.specs.Plan.{plan_cost}
 use Rattle.model.proofs.PlanLeast.{plan_least}
 use Rattle.model.proofs.QuoteLaws.{hold_below}
 use Rattle.online.specs.declared.Cache.{Cache}
-use Rattle.online.specs.declared.RunningCost.TheVariants.{Cost}
 use Rattle.online.specs.Rules.{running}
 use Rattle.online.specs.Conditions.{running_conditions}
 use Rattle.online.specs.Answers.{running_verdict, running_by, running_answer}
@@ -40,7 +38,7 @@ use Rattle.live.specs.LiveCalls.{scans_passed, request, scans_taken, requests_ta
 
 module _ (t : Tariff) (ranged : Priced t) (log : List ℕ) (k : ℕ) (a : Accepted t log) (h : k ≤ request_count log) where
   -- none of the first k calls is refused
-  pub passed : verdicts (opened t log) (calls_of log k) ≡ replicate k Passed
+  pub passed : verdicts (opened t log) (calls_of log k) ≡ replicate k (Ok tt)
   unfolding Runs
   passed = scans_passed (opened t log) (id_of log) (seconds_of log) (servers_of log) k (λ i l. goes_on t ranged log a i (omega arith))
 
@@ -144,7 +142,7 @@ module _ (t : Tariff) (ranged : Priced t) (log : List ℕ) (a : Accepted t log) 
       last_late (suc i) e = ((accepted_sound t log a).in_order i (omega arith)).second_least
 
 -- and of any bytes that are an accepted log it is what the call answers
-pub running_answered : (t : Tariff) → Priced t → (log : List ℕ) → Accepted t log → running_answer (state_of t log) ≡ Cost (running_bill t log)
+pub running_answered : (t : Tariff) → Priced t → (log : List ℕ) → Accepted t log → running_answer (state_of t log) ≡ Ok (running_bill t log)
 unfolding state_of running_bill opened header_of running_answer running_verdict running_by running_conditions first
 running_answered t ranged log a =
     rw (accepted_header t log a, intact_unbroken _ (intact_after t ranged log a (request_count log) (omega arith)))

@@ -1,15 +1,13 @@
 -- No scan of an accepted log's requests is refused, nor a close after them.
-use Rattle.std.specs.Prelude.{Bool, true, false, List, [], ◌∷◌, ◌++◌, ◌≡◌, ℕ, zero, suc, ◌+◌, ◌*◌, ◌≤◌, ◌<◌, get_or}
+use Rattle.std.specs.Prelude.{Bool, true, false, List, [], ◌∷◌, ◌++◌, ◌≡◌, ℕ, zero, suc, ◌+◌, ◌*◌, ◌≤◌, ◌<◌, get_or, Ok}
 use Rattle.std.proofs.Math.Path.{refl, ap}
 use Rattle.std.proofs.Common.{sym, ◌∙◌, arith, le-ltb, ne_eqb}
 use Rattle.std.proofs.lemmas.Bool.{lt-leb}
 use Rattle.base.specs.Choice.{pick}
-use Rattle.base.specs.Refusals.{first}
+use Rattle.base.specs.Refusals.{first, Verdict}
 use Rattle.base.specs.Bytes.{le16, le32}
 use Rattle.base.specs.Lists.{build}
 use Rattle.base.specs.SameLaws.{equal_same}
-use Rattle.base.specs.declared.Verdict.{Verdict}
-use Rattle.base.specs.declared.Verdict.TheVariants.{Passed}
 use Rattle.prices.specs.Prices.{prices_of, InRange}
 use Rattle.prices.specs.PriceLaws.{Priced}
 use Rattle.prices.specs.Tariff.{Tariff}
@@ -21,7 +19,7 @@ use Rattle.model.specs.Requests.{Requests, requests}
 use Rattle.model.specs.LogRequests.{requests_in, prices_in}
 use Rattle.model.proofs.LogRequestLaws.{log_priced}
 use Rattle.online.specs.declared.Cache.{Cache}
-use Rattle.online.specs.declared.ScanOutcome.TheVariants as scan'
+use Rattle.online.specs.declared.Service.TheVariants.{Kept, Sent}
 use Rattle.online.specs.Rules.{fresh, kept, accept, running}
 use Rattle.online.specs.Conditions.{scan_conditions, close_conditions}
 use Rattle.online.specs.Answers.{log_start_verdict, scan_verdict, close_verdict, started_for_log, started_by, mark_outcome, scanned, scanned_by}
@@ -34,7 +32,7 @@ use Rattle.live.specs.Live.{scans, state_after, live_mark, live_cost, opened}
 use Rattle.live.specs.Replies.{outcome_letter, outcome_cost, turn}
 
 -- a request whose scan is not refused is answered by the rules
-pub turn_passed : (c : Cache) (id : List ℕ) (second server : ℕ) → scan_verdict c id second server ≡ Passed
+pub turn_passed : (c : Cache) (id : List ℕ) (second server : ℕ) → scan_verdict c id second server ≡ Ok tt
     → turn c id second server
     ≡ record { cache = accept c second server; mark = pick (kept c second server) 75 83; cost = running (accept c second server) }
 unfolding turn outcome_cost outcome_letter scanned scanned_by mark_outcome
@@ -44,7 +42,7 @@ turn_passed c id second server e = rw e (go (kept c second server))
     cost = running (accept c second server)
 
     go : (b : Bool)
-        → let o = pick b (scan'.Kept cost) (scan'.Sent c.last cost) in
+        → let o = pick b (Ok (Kept cost)) (Ok (Sent c.last cost)) in
         ◌≡◌ {A = Turn}
         (record { cache = accept c second server; mark = outcome_letter o; cost = outcome_cost o })
         (record { cache = accept c second server; mark = pick b 75 83; cost = cost })
@@ -53,7 +51,7 @@ turn_passed c id second server e = rw e (go (kept c second server))
 
 -- the scans of the first n of some requests are not refused
 unfoldable pub Runs : Cache → List ℕ → List ℕ → List ℕ → ℕ → Type 0
-Runs c id seconds servers n = (i : ℕ) → i < n → scan_verdict (state_after c id seconds servers i) id (get_or seconds i 0) (get_or servers i 0) ≡ Passed
+Runs c id seconds servers n = (i : ℕ) → i < n → scan_verdict (state_after c id seconds servers i) id (get_or seconds i 0) (get_or servers i 0) ≡ Ok tt
 
 -- calls and then others
 run_append : (c : Cache) (xs ys : List Call) → run c (xs ++ ys) ≡ run (run c xs) ys
@@ -77,14 +75,14 @@ state_read c id log k h =
 
 -- one that is not refused
 pub state_next : (c : Cache) (id seconds servers : List ℕ) (k : ℕ)
-    → scan_verdict (state_after c id seconds servers k) id (get_or seconds k 0) (get_or servers k 0) ≡ Passed
+    → scan_verdict (state_after c id seconds servers k) id (get_or seconds k 0) (get_or servers k 0) ≡ Ok tt
     → state_after c id seconds servers (suc k) ≡ accept (state_after c id seconds servers k) (get_or seconds k 0) (get_or servers k 0)
 state_next c id seconds servers k e =
     state_step c id seconds servers k ∙ after_scan (state_after c id seconds servers k) id (get_or seconds k 0) (get_or servers k 0) e
 
 -- and what its calls answer
 pub turn_next : (c : Cache) (id seconds servers : List ℕ) (i : ℕ) (state : Cache) → state ≡ state_after c id seconds servers i
-    → scan_verdict (state_after c id seconds servers i) id (get_or seconds i 0) (get_or servers i 0) ≡ Passed
+    → scan_verdict (state_after c id seconds servers i) id (get_or seconds i 0) (get_or servers i 0) ≡ Ok tt
     → turn state id (get_or seconds i 0) (get_or servers i 0)
     ≡ record {
       cache = state_after c id seconds servers (suc i);
@@ -97,13 +95,13 @@ turn_next c id seconds servers i state e g =
     (turn_passed (state_after c id seconds servers i) id (get_or seconds i 0) (get_or servers i 0) g)
 
 -- the verdict of a close for which nothing holds
-close_passes : (c : Cache) → Intact c → c.closed ≡ false → close_verdict c ≡ Passed
+close_passes : (c : Cache) → Intact c → c.closed ≡ false → close_verdict c ≡ Ok tt
 unfolding close_verdict close_conditions first
 close_passes c s e = rw (intact_unbroken c s, e)
 
 -- the verdict of a scan for which nothing holds
 scan_passes : (c : Cache) (id : List ℕ) (second server : ℕ) → id ≡ c.id → server < c.server_count → 1 ≤ second → second ≤ 4000000 → Intact c → c.closed ≡ false
-    → c.requests < 2048 → c.second < second → scan_verdict c id second server ≡ Passed
+    → c.requests < 2048 → c.second < second → scan_verdict c id second server ≡ Ok tt
 unfolding scan_verdict scan_conditions first
 scan_passes c id second server z a b d s e f g =
     rw (z, equal_same c.id, lt-leb _ _ a, ne_eqb second 0 (λ z. omega arith), le-ltb _ _ d, intact_unbroken c s, lt-leb _ _ f, lt-leb _ _ g, e)
@@ -117,7 +115,7 @@ module _ (t : Tariff) (priced : Priced t) (log : List ℕ) (a : Accepted t log) 
   q = requests_in log
 
   -- its start is not refused
-  pub starts : log_start_verdict t (setup_of log) ≡ Passed
+  pub starts : log_start_verdict t (setup_of log) ≡ Ok tt
   unfolding log_start_verdict
   starts = rw (accepted.accepted_judged t log a) ((accepted.setup_allowed t.table (setup_of log)).1 (accepted.accepted_class t log a, facts.setup))
 
@@ -151,7 +149,7 @@ module _ (t : Tariff) (priced : Priced t) (log : List ℕ) (a : Accepted t log) 
   intact_at k s = reached_intact t.table (header_of log) facts.setup range q (state k) k s.reached
 
   -- the scan of the next request passes
-  passes : (k : ℕ) → k < request_count log → At k → scan_verdict (state k) (id_of log) (second k) (server k) ≡ Passed
+  passes : (k : ℕ) → k < request_count log → At k → scan_verdict (state k) (id_of log) (second k) (server k) ≡ Ok tt
   unfolding requests_in requests header_of
   passes k h s =
       let r = s.reached in
@@ -191,9 +189,9 @@ module _ (t : Tariff) (priced : Priced t) (log : List ℕ) (a : Accepted t log) 
   intact_after k h = intact_at k (at k h)
 
   -- every request is scanned
-  pub goes_on : (k : ℕ) → k < request_count log → scan_verdict (state k) (id_of log) (second k) (server k) ≡ Passed
+  pub goes_on : (k : ℕ) → k < request_count log → scan_verdict (state k) (id_of log) (second k) (server k) ≡ Ok tt
   goes_on k h = passes k h (at k (omega arith))
 
   -- and the close after them is not refused
-  pub closes : close_verdict (state (request_count log)) ≡ Passed
+  pub closes : close_verdict (state (request_count log)) ≡ Ok tt
   closes = let s = at (request_count log) (omega arith) in close_passes (state (request_count log)) (intact_at (request_count log) s) s.unclosed

@@ -1,11 +1,12 @@
 -- The checker's conditions all fail if and only if the numbers are rows of four, well formed and feasible.
-use Rattle.std.specs.Prelude.{Bool, ◌↔◌, ◌≡◌, refl, ℕ, zero, suc, ◌%◌, ◌≤◌, ◌<◌, eqb, length}
+use Rattle.std.specs.Prelude.{Bool, ◌↔◌, ◌≡◌, refl, ℕ, zero, suc, ◌%◌, ◌≤◌, ◌<◌, eqb, length, Ok}
+use Rattle.base.specs.declared.reasons.Reason.TheVariants as reason
 use Rattle.std.proofs.Math.Bool.{true, false, not}
 use mathlib.Core.List.{List, [], ◌∷◌, ◌++◌, Memᴰ}
 use Rattle.std.proofs.Math.Path.{sym}
 use Rattle.std.proofs.Common.{ap, ◌∙◌, arith}
 use borrow.Author.Tests.{eqb-true, eqb-false, lt-ltb, ne_eqb, not-false}
-use Rattle.base.specs.declared.Verdict.TheVariants.{Passed}
+use Rattle.base.specs.declared.reasons.Reason.{Reason}
 use Rattle.base.specs.Choice.{either, not_both}
 use Rattle.base.specs.Refusals.{Condition, refuse, first, each, nth}
 use Rattle.base.specs.RefusalLaws.{first_failed, append_passed, each_passed, first_passed}
@@ -53,9 +54,9 @@ placed_not ns zero h = refl
 placed_not ns (suc j) h = rw (lt-ltb 0 (suc j) (omega arith), h j refl)
 
 -- a condition alone
-alone_passed : (number place : ℕ) (b : Bool) → b ≡ false → first (refuse number place b ∷ []) ≡ Passed
+alone_passed : (r : Reason) (place : ℕ) (b : Bool) → b ≡ false → first (refuse r place b ∷ []) ≡ Ok tt
 unfolding first
-alone_passed number place b e = rw e
+alone_passed r place b e = rw e
 
 -- ---- all conditions fail
 
@@ -79,7 +80,7 @@ module _ (p : Rates) (count : ℕ) (q : Requests) (n : ℕ) (ns : List ℕ) wher
   of_requests = each (serve_condition count q ns) n
 
   -- they all fail if and only if that holds
-  clear : first (schedule_conditions p count q n ns) ≡ Passed → Clear p count q n ns
+  clear : first (schedule_conditions p count q n ns) ≡ Ok tt → Clear p count q n ns
   unfolding schedule_conditions row_conditions copy_condition serve_condition
   clear e =
       record {
@@ -93,31 +94,31 @@ module _ (p : Rates) (count : ℕ) (q : Requests) (n : ℕ) (ns : List ℕ) wher
       four : not (eqb (length ns % 4) 0) ≡ false
       four = (first_passed (schedule_conditions p count q n ns)).0 e 0
 
-      rows : (first of_rows ≡ Passed) × (first (of_copies ++ of_requests) ≡ Passed)
+      rows : (first of_rows ≡ Ok tt) × (first (of_copies ++ of_requests) ≡ Ok tt)
       rows = (append_passed of_rows (of_copies ++ of_requests)).0 (sym (first_failed _ _ four) ∙ e)
 
-      rest : (first of_copies ≡ Passed) × (first of_requests ≡ Passed)
+      rest : (first of_copies ≡ Ok tt) × (first of_requests ≡ Ok tt)
       rest = (append_passed of_copies of_requests).0 rows.1
 
       row : (i : ℕ) → i < row_count ns → (j : ℕ) → (nth (row_conditions p count q n ns i) j).holds ≡ false
       row i l = (first_passed (row_conditions p count q n ns i)).0 ((each_passed (row_conditions p count q n ns) (row_count ns)).0 rows.0 i l)
 
-  clear_passed : Clear p count q n ns → first (schedule_conditions p count q n ns) ≡ Passed
+  clear_passed : Clear p count q n ns → first (schedule_conditions p count q n ns) ≡ Ok tt
   unfolding schedule_conditions row_conditions copy_condition serve_condition
   clear_passed c =
-      first_failed (refuse 14 0 (not (eqb (length ns % 4) 0))) _ (rw c.whole)
+      first_failed (refuse reason.PartialRow 0 (not (eqb (length ns % 4) 0))) _ (rw c.whole)
       ∙ (append_passed of_rows (of_copies ++ of_requests)).1 (
         (each_passed (row_conditions p count q n ns) (row_count ns)).1 row,
         (append_passed of_copies of_requests).1 (
-          (each_passed _ _).1 (λ i l. alone_passed 17 (suc i) _ (ap not (c.backed_at i l))),
-          (each_passed _ _).1 (λ i l. alone_passed 18 (suc i) _ (ap not (c.served_at i l))),
+          (each_passed _ _).1 (λ i l. alone_passed reason.NoCopy (suc i) _ (ap not (c.backed_at i l))),
+          (each_passed _ _).1 (λ i l. alone_passed reason.Unserved (suc i) _ (ap not (c.served_at i l))),
         ),
       )
     where
-      row : (i : ℕ) → i < row_count ns → first (row_conditions p count q n ns i) ≡ Passed
+      row : (i : ℕ) → i < row_count ns → first (row_conditions p count q n ns i) ≡ Ok tt
       row i l =
-          first_failed (refuse 15 (suc i) (misfits p count q n ns i)) _ (fitting_not p count q n ns i (c.fitting_at i l))
-          ∙ alone_passed 16 (suc i) (misplaced ns i) (placed_not ns i (λ j e. c.placed_at j (omega arith)))
+          first_failed (refuse reason.RowForm (suc i) (misfits p count q n ns i)) _ (fitting_not p count q n ns i (c.fitting_at i l))
+          ∙ alone_passed reason.RowOrder (suc i) (misplaced ns i) (placed_not ns i (λ j e. c.placed_at j (omega arith)))
 
 -- ---- what the conditions say of the rows
 
@@ -189,7 +190,7 @@ module _ (p : Rates) (count : ℕ) (q : Requests) (n : ℕ) (ns : List ℕ) wher
       back (move (upload x τ)) m = refl
 
   -- the conditions all fail if and only if the rows are accepted
-  pub accepts_iff : (first (schedule_conditions p count q n ns) ≡ Passed) ↔ Scheduled p count q n ns
+  pub accepts_iff : (first (schedule_conditions p count q n ns) ≡ Ok tt) ↔ Scheduled p count q n ns
   accepts_iff = (λ e. accepted (clear p count q n ns e), λ a. clear_passed p count q n ns (scheduled_clear a))
 
 -- ---- 17 and 18 by where copies stand
@@ -200,12 +201,12 @@ fails_iff true f g = (λ e. absurd (not_both e refl), λ h. absurd (h (f refl)))
 fails_iff false f g = (λ e a. not_both (g a) refl, λ h. refl)
 
 -- where none of 14 to 16 holds
-module _ (p : Rates) (count : ℕ) (q : Requests) (n : ℕ) (ns : List ℕ) (e : first (form_conditions p count q n ns) ≡ Passed) where
+module _ (p : Rates) (count : ℕ) (q : Requests) (n : ℕ) (ns : List ℕ) (e : first (form_conditions p count q n ns) ≡ Ok tt) where
   shape : Formed count n (q.time n) (rows_of ns)
   unfolding row_conditions
   shape = shaped p count q n ns (λ i l. fitting p count q n ns i (row i l 0)) (λ i l. placed ns i (row (suc i) l 1))
     where
-      rows : first (of_rows p count q n ns) ≡ Passed
+      rows : first (of_rows p count q n ns) ≡ Ok tt
       rows = sym (first_failed _ _ ((first_passed (form_conditions p count q n ns)).0 e 0)) ∙ e
 
       row : (i : ℕ) → i < row_count ns → (j : ℕ) → (nth (row_conditions p count q n ns i) j).holds ≡ false

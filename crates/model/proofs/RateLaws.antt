@@ -1,9 +1,8 @@
 -- Laws of the upload price: where none is given no feasible schedule has an upload; one that passed 44 is at most 1,000,000.
-use Rattle.std.specs.Prelude.{false, ◌≡◌, ℕ, ◌≤◌}
+use Rattle.std.specs.Prelude.{false, ◌≡◌, ℕ, ◌≤◌, Ok}
 use mathlib.Core.List.{List, Memᴰ}
 use Rattle.std.proofs.Math.Option.{Option, none, some}
 use Rattle.std.proofs.Common.{arith}
-use Rattle.base.specs.declared.Verdict.TheVariants.{Passed}
 use Rattle.base.specs.Choice.{not_both}
 use Rattle.base.specs.Refusals.{first}
 use Rattle.prices.specs.Uploads.{upload_conditions}
@@ -15,7 +14,7 @@ use Rattle.model.specs.Requests.{Requests}
 use Rattle.model.specs.Schedule.{Row, hold, move, transfer, upload, Feasible}
 
 -- a price that passed 44
-pub fee_most : (u : Option ℕ) → first (upload_conditions u) ≡ Passed → or_zero u ≤ 1000000
+pub fee_most : (u : Option ℕ) → first (upload_conditions u) ≡ Ok tt → or_zero u ≤ 1000000
 unfolding or_zero
 fee_most none e = omega arith
 fee_most (some y) e = ((taken_iff (some y)).0 e).1

@@ -1,5 +1,6 @@
 -- The conditions of a list of numbers as a schedule, in 01's order (14 to 18), and what the checker answers. Assumes nothing.
 use Rattle.std.specs.Prelude.{Bool, true, not, List, [], ◌∷◌, ◌++◌, ◌≡◌, ℕ, suc, pred, ◌+◌, ◌*◌, ◌/◌, ◌%◌, ◌<◌, ltb, eqb, get_or, length}
+use Rattle.base.specs.declared.reasons.Reason.TheVariants as reason
 use Rattle.base.specs.Choice.{pick, both, either}
 use Rattle.base.specs.Refusals.{Condition, refuse, each}
 use Rattle.model.specs.Rates.{Rates, offers}
@@ -31,7 +32,7 @@ misplaced ns i = both (ltb 0 i) (not (follows (row_at ns (pred i)) (row_at ns i)
 -- row i, from 0: 15, then 16
 unfoldable pub row_conditions : Rates → ℕ → Requests → ℕ → List ℕ → ℕ → List Condition
 row_conditions p count q n ns i =
-    refuse 15 (suc i) (misfits p count q n ns i) ∷ refuse 16 (suc i) (misplaced ns i) ∷ []
+    refuse reason.RowForm (suc i) (misfits p count q n ns i) ∷ refuse reason.RowOrder (suc i) (misplaced ns i) ∷ []
 
 -- a copy stands where and when a hold begins or a transfer leaves; an upload asks for none
 unfoldable pub backed : ℕ → ℕ → List Row → Row → Bool
@@ -41,17 +42,17 @@ backed count home rows (move (upload x τ)) = true
 
 -- row i, from 0: 17, no copy at its start or source
 unfoldable pub copy_condition : ℕ → Requests → List ℕ → ℕ → List Condition
-copy_condition count q ns i = refuse 17 (suc i) (not (backed count (q.server 0) (rows_of ns) (row_at ns i))) ∷ []
+copy_condition count q ns i = refuse reason.NoCopy (suc i) (not (backed count (q.server 0) (rows_of ns) (row_at ns i))) ∷ []
 
 -- request i + 1: 18, no copy at its server and second
 unfoldable pub serve_condition : ℕ → Requests → List ℕ → ℕ → List Condition
 serve_condition count q ns i =
-    refuse 18 (suc i) (not (stands count (q.server 0) (rows_of ns) (q.server (suc i)) (q.time (suc i)))) ∷ []
+    refuse reason.Unserved (suc i) (not (stands count (q.server 0) (rows_of ns) (q.server (suc i)) (q.time (suc i)))) ∷ []
 
 -- 14, then each row's 15 and 16
 abbrev pub form_conditions : Rates → ℕ → Requests → ℕ → List ℕ → List Condition
 form_conditions p count q n ns =
-    refuse 14 0 (not (eqb (length ns % 4) 0)) ∷ each (row_conditions p count q n ns) (row_count ns)
+    refuse reason.PartialRow 0 (not (eqb (length ns % 4) 0)) ∷ each (row_conditions p count q n ns) (row_count ns)
 
 -- these, then each row's 17, then each request's 18
 unfoldable pub schedule_conditions : Rates → ℕ → Requests → ℕ → List ℕ → List Condition

@@ -1,5 +1,6 @@
 -- The conditions of a scan, of the running cost and of a close, in 01's order; those of a start are prices' file_conditions and request_log's offered_conditions (37, 38, 3, 43, 4, 5). Assumes nothing.
 use Rattle.std.specs.Prelude.{Bool, false, not, List, [], ◌∷◌, ℕ, ◌+◌, leb, ltb, eqb}
+use Rattle.base.specs.declared.reasons.Reason.TheVariants as reason
 use Rattle.base.specs.Choice.{both, either}
 use Rattle.base.specs.Lists.{same}
 use Rattle.base.specs.Refusals.{Condition, refuse}
@@ -51,19 +52,19 @@ broken c = any_of (faults c)
 -- later
 unfoldable pub scan_conditions : Cache → List ℕ → ℕ → ℕ → List Condition
 scan_conditions c id second server =
-    refuse 11 0 (leb c.server_count server)
-    ∷ refuse 12 0 (either (eqb second 0) (ltb 4000000 second))
-    ∷ refuse 32 0 (broken c)
-    ∷ refuse 33 0 c.closed
-    ∷ refuse 39 0 (not (same id c.id))
-    ∷ refuse 34 0 (leb 2048 c.requests)
-    ∷ refuse 35 0 (leb second c.second)
+    refuse reason.UnknownServer 0 (leb c.server_count server)
+    ∷ refuse reason.SecondRange 0 (either (eqb second 0) (ltb 4000000 second))
+    ∷ refuse reason.BrokenState 0 (broken c)
+    ∷ refuse reason.Closed 0 c.closed
+    ∷ refuse reason.OtherFile 0 (not (same id c.id))
+    ∷ refuse reason.Full 0 (leb 2048 c.requests)
+    ∷ refuse reason.PastSecond 0 (leb second c.second)
     ∷ []
 
 -- the running cost: 32
 unfoldable pub running_conditions : Cache → List Condition
-running_conditions c = refuse 32 0 (broken c) ∷ []
+running_conditions c = refuse reason.BrokenState 0 (broken c) ∷ []
 
 -- a close: 32; 33 closed
 unfoldable pub close_conditions : Cache → List Condition
-close_conditions c = refuse 32 0 (broken c) ∷ refuse 33 0 c.closed ∷ []
+close_conditions c = refuse reason.BrokenState 0 (broken c) ∷ refuse reason.Closed 0 c.closed ∷ []

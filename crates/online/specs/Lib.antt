@@ -8,7 +8,6 @@ pub mod Answers
 pub mod Serving
 pub mod ServerLaws
 pub mod ConditionLaws
-pub mod IdLaws
 pub mod StartLaws
 pub mod Walk
 pub mod Intact

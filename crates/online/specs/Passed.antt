@@ -1,14 +1,12 @@
 -- What a start, a scan and a close have that are not refused.
-use Rattle.std.specs.Prelude.{true, false, ◌≢◌, ◌↔◌, List, ◌≡◌, ℕ, ◌≤◌, ◌<◌, ltb, eqb, length}
+use Rattle.std.specs.Prelude.{true, false, ◌≢◌, ◌↔◌, List, ◌≡◌, ℕ, ◌≤◌, ◌<◌, ltb, eqb, length, Ok, Err}
 use Rattle.std.proofs.Common.{ap, ◌∙◌, arith, leb-false, ltb-false}
 use Rattle.std.proofs.lemmas.Bool.{eqb-false, not-false}
 use Rattle.base.specs.ChoiceLaws.{either_false}
 use Rattle.base.specs.SameLaws.{same_equal}
-use Rattle.base.specs.Refusals.{first, otherwise, Never}
+use Rattle.base.specs.Refusals.{first, otherwise, Never, Verdict}
 use Rattle.base.specs.NumberLaws.{otherwise_never}
 use Rattle.base.specs.RefusalLaws.{first_passed, otherwise_passed}
-use Rattle.base.specs.declared.Verdict.{Verdict}
-use Rattle.base.specs.declared.Verdict.TheVariants.{Passed, Refused}
 use Rattle.prices.specs.Prices.{prices_of, InRange}
 use Rattle.prices.specs.PriceLaws.{Priced}
 use Rattle.prices.specs.Tariff.{Tariff}
@@ -24,7 +22,7 @@ use Rattle.online.specs.Answers.{start_verdict, log_start_verdict, scan_verdict,
 use Rattle.online.specs.Intact.{Intact, unbroken_intact}
 
 -- a start for a log that is not refused is given what is allowed, and prices in range
-pub log_start_passed : (t : Tariff) → Priced t → (s : Setup) → log_start_verdict t s ≡ Passed → Allowed s × InRange (prices_of t.table s.«class»)
+pub log_start_passed : (t : Tariff) → Priced t → (s : Setup) → log_start_verdict t s ≡ Ok tt → Allowed s × InRange (prices_of t.table s.«class»)
 unfolding log_start_verdict
 log_start_passed t p s e =
     let (j, f) = otherwise_passed t.judged _ e in
@@ -32,29 +30,29 @@ log_start_passed t p s e =
     (a, p j s.«class» l)
 
 -- no price file refuses, nor anything after it
-passes : (v w : Verdict) → v ≡ Passed → w ≡ Passed → otherwise v w ≡ Passed
+passes : (v w : Verdict) → v ≡ Ok tt → w ≡ Ok tt → otherwise v w ≡ Ok tt
 passes v w e f = rw (e, f)
 
 -- a start passes exactly if that does, and its class has not ended
-pub start_passed : (o : Offer) (s : Setup) → (start_verdict o s ≡ Passed) ↔ ((log_start_verdict o.tariff s ≡ Passed) × (o.ended s.«class» ≡ false))
+pub start_passed : (o : Offer) (s : Setup) → (start_verdict o s ≡ Ok tt) ↔ ((log_start_verdict o.tariff s ≡ Ok tt) × (o.ended s.«class» ≡ false))
 unfolding start_verdict log_start_verdict
 start_passed o s = (to, from)
   where
-    to : start_verdict o s ≡ Passed → (log_start_verdict o.tariff s ≡ Passed) × (o.ended s.«class» ≡ false)
+    to : start_verdict o s ≡ Ok tt → (log_start_verdict o.tariff s ≡ Ok tt) × (o.ended s.«class» ≡ false)
     to e =
         let (j, f) = otherwise_passed o.tariff.judged _ e in
         let (sold, a) = (offered_allowed o s).0 f in
         (passes o.tariff.judged _ j ((setup_allowed o.tariff.table s).1 (sold.listed, a)), sold.unended)
 
-    from : (log_start_verdict o.tariff s ≡ Passed) × (o.ended s.«class» ≡ false) → start_verdict o s ≡ Passed
+    from : (log_start_verdict o.tariff s ≡ Ok tt) × (o.ended s.«class» ≡ false) → start_verdict o s ≡ Ok tt
     from (e, going) =
         let (j, f) = otherwise_passed o.tariff.judged _ e in
         let (l, a) = (setup_allowed o.tariff.table s).0 f in
         passes o.tariff.judged _ j ((offered_allowed o s).1 (record { listed = l; unended = going }, a))
 
 -- a start with a class that has ended is refused with 43, whatever else it is given
-pub start_refused : (o : Offer) (s : Setup) → o.tariff.judged ≡ Passed → s.«class» < length o.tariff.table → o.ended s.«class» ≡ true
-    → start_verdict o s ≡ Refused no_longer_sold
+pub start_refused : (o : Offer) (s : Setup) → o.tariff.judged ≡ Ok tt → s.«class» < length o.tariff.table → o.ended s.«class» ≡ true
+    → start_verdict o s ≡ Err no_longer_sold
 unfolding start_verdict
 start_refused o s j l e = ap (λ (v : Verdict). otherwise v (first (offered_conditions o s))) j ∙ offered_refused o s l e
 
@@ -78,7 +76,7 @@ pub record Fit (c : Cache) (second server : ℕ) : Type 0 where
   pub later : c.second < second
 
 -- they have these
-pub scan_passed : (c : Cache) (id : List ℕ) (second server : ℕ) → scan_verdict c id second server ≡ Passed → Fit c second server
+pub scan_passed : (c : Cache) (id : List ℕ) (second server : ℕ) → scan_verdict c id second server ≡ Ok tt → Fit c second server
 unfolding scan_verdict scan_conditions
 scan_passed c id second server e =
     let f = (first_passed (scan_conditions c id second server)).0 e in
@@ -94,16 +92,16 @@ scan_passed c id second server e =
     }
 
 -- and it came with the state's id
-pub scan_own : (c : Cache) (id : List ℕ) (second server : ℕ) → scan_verdict c id second server ≡ Passed → id ≡ c.id
+pub scan_own : (c : Cache) (id : List ℕ) (second server : ℕ) → scan_verdict c id second server ≡ Ok tt → id ≡ c.id
 unfolding scan_verdict scan_conditions
 scan_own c id second server e = same_equal id c.id (not-false _ ((first_passed (scan_conditions c id second server)).0 e 4))
 
 -- the state of a running cost that is not refused: intact
-pub running_passed : (c : Cache) → running_verdict c ≡ Passed → Intact c
+pub running_passed : (c : Cache) → running_verdict c ≡ Ok tt → Intact c
 unfolding running_verdict running_conditions
 running_passed c e = unbroken_intact c ((first_passed (running_conditions c)).0 e 0)
 
 -- the state of a close that is not refused: intact, and not closed
-pub close_passed : (c : Cache) → close_verdict c ≡ Passed → Intact c × (c.closed ≡ false)
+pub close_passed : (c : Cache) → close_verdict c ≡ Ok tt → Intact c × (c.closed ≡ false)
 unfolding close_verdict close_conditions
 close_passed c e = let f = (first_passed (close_conditions c)).0 e in (unbroken_intact c (f 0), f 1)

@@ -4,12 +4,11 @@ use Rattle.std.proofs.Common.{inl, inr, ap, ◌∙◌, arith, eq-eqb, ne_eqb, lt
 use Rattle.base.specs.Choice.{pick, le_or_lt, same_or_not}
 use Rattle.base.specs.Sets.{put}
 use Rattle.base.specs.Lists.{build}
-use Rattle.base.specs.Refusals.{from}
+use Rattle.base.specs.Refusals.{from, Verdict}
 use Rattle.base.specs.RefusalLaws.{from_otherwise}
-use Rattle.base.specs.declared.Verdict.{Verdict}
 use Rattle.prices.specs.declared.Prices.{Prices}
 use Rattle.prices.specs.Prices.{prices_of}
-use Rattle.prices.specs.Tariff.{tariff}
+use Rattle.prices.specs.Tariff.{Tariff}
 use Rattle.prices.specs.Offer.{Offer, offer}
 use Rattle.request_log.specs.declared.Header.{Header}
 use Rattle.request_log.specs.Conditions.{setup_conditions, offered_conditions}
@@ -22,18 +21,17 @@ use Rattle.online.specs.Servers.{set_of}
 abbrev pub WithPrices : Prices → Header → (List Prices → Type 0) → Type 0
 WithPrices p h P = (table : List Prices) → p ≡ prices_of table h.«class» → P table
 
--- a start by what its price file was answered, and then the setup; of what is offered it asks only whether the one class has ended
-pub start_made : (w : Verdict) (ended : Bool) (o : Offer) (h : Header) (x : Started) → ended ≡ o.ended h.«class»
-    → w ≡ from o.tariff.judged (offered_conditions (offer o.tariff (λ class. ended)) (setup_in h)) → x ≡ started_by w o.tariff.table h
-    → x ≡ started o h
+-- a start by a tariff; of what is offered it asks only whether the one class has ended
+pub start_made : (t : Tariff) (w : Verdict) (ended : Bool) (o : Offer) (h : Header) (x : Started) → t ≡ o.tariff → ended ≡ o.ended h.«class»
+    → w ≡ from t.judged (offered_conditions (offer t (λ class. ended)) (setup_in h)) → x ≡ started_by w t.table h → x ≡ started o h
 unfolding started start_verdict offered_conditions
-start_made w ended o h x g e f =
-    f ∙ ap (λ (u : Verdict). started_by u o.tariff.table h) (e ∙ from_otherwise o.tariff.judged _ ∙ rw g)
+start_made t w ended o h x z g e f =
+    rw z at f ∙ ap (λ (u : Verdict). started_by u o.tariff.table h) (rw z at e ∙ from_otherwise o.tariff.judged _ ∙ rw g)
 
-pub log_start_made : (v w : Verdict) (table : List Prices) (h : Header) (x : Started) → w ≡ from v (setup_conditions table (setup_in h))
-    → x ≡ started_by w table h → x ≡ started_for_log (tariff v table) h
+pub log_start_made : (t : Tariff) (w : Verdict) (h : Header) (x : Started) → w ≡ from t.judged (setup_conditions t.table (setup_in h))
+    → x ≡ started_by w t.table h → x ≡ started_for_log t h
 unfolding started_for_log log_start_verdict
-log_start_made v w table h x e f = f ∙ ap (λ (u : Verdict). started_by u table h) (e ∙ from_otherwise v (setup_conditions table (setup_in h)))
+log_start_made t w h x e f = f ∙ ap (λ (u : Verdict). started_by u t.table h) (e ∙ from_otherwise t.judged (setup_conditions t.table (setup_in h)))
 
 -- one more of the same at the end
 replicate_end : (n x : ℕ) → replicate n x ++ (x ∷ []) ≡ replicate (suc n) x

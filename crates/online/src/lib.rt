@@ -3,18 +3,17 @@
 
 mod close;
 mod conditions;
-mod ids;
 mod running;
 mod scan;
 mod start;
 mod state;
 
-use base::Refusal;
+use base::{Refusal, Verdict};
 use prices::Prices;
 
 // The state (01's 'The live keeper'). Every field is public, so that a caller can hand in any state; its layout is C's.
 #[repr(C)]
-#[derive(Clone, Copy)]
+#[derive(Clone, Copy, Debug, PartialEq, Eq)]
 pub struct Cache {
     // the hold and the transfer price (01: keep and send)
     pub prices: Prices,
@@ -39,52 +38,30 @@ pub struct Cache {
     pub closed: bool,
 }
 
-// A start is ready, or refused.
-#[derive(Clone, Copy)]
-pub enum StartOutcome {
-    Ready,
-    Refused(Refusal),
-}
-
 // A start's answer and its state, zeros where it is refused.
-#[derive(Clone, Copy)]
+#[derive(Clone, Copy, Debug, PartialEq, Eq)]
 pub struct Started {
     pub cache: Cache,
-    pub outcome: StartOutcome,
+    pub outcome: Verdict,
 }
 
-// A request found its copy kept (K), or it was sent from a server (S), each with the running cost after it; or it is refused.
-#[derive(Clone, Copy)]
-pub enum ScanOutcome {
+// How a request was served: its copy was kept (K), or it was sent from a server (S), each with the running cost after it.
+#[derive(Clone, Copy, Debug, PartialEq, Eq)]
+pub enum Service {
     Kept { cost: u64 },
     Sent { source: u16, cost: u64 },
-    Refused(Refusal),
 }
 
 // A scan's answer and the next state, the same where it is refused.
-#[derive(Clone, Copy)]
+#[derive(Clone, Copy, Debug, PartialEq, Eq)]
 pub struct Scanned {
     pub cache: Cache,
-    pub outcome: ScanOutcome,
-}
-
-// The running cost (01: running bill), or why there is none.
-#[derive(Clone, Copy)]
-pub enum RunningCost {
-    Cost(u64),
-    Refused(Refusal),
-}
-
-// A close gives the closing cost (02: closing bill), or is refused.
-#[derive(Clone, Copy)]
-pub enum CloseOutcome {
-    Cost(u64),
-    Refused(Refusal),
+    pub outcome: Result<Service, Refusal>,
 }
 
 // A close's answer and the closed state, the same where it is refused.
-#[derive(Clone, Copy)]
+#[derive(Clone, Copy, Debug, PartialEq, Eq)]
 pub struct Closed {
     pub cache: Cache,
-    pub outcome: CloseOutcome,
+    pub outcome: Result<u64, Refusal>,
 }

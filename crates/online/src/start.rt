@@ -1,18 +1,18 @@
 // A start: the copy at home, or 37, 38, 3, 43, 4, 5; and one for a log that there is, without 43.
+#![tactic(auto, using(crate::specs::StartLaws::set_one, crate::specs::StartLaws::build_const), unfolding(crate::specs::Rules::fresh, crate::specs::Rules::zeros, crate::specs::Answers::started_by))]
+
 ghost use Rattle.std.specs.Prelude.{◌≡◌};
-ghost use Rattle.prices.specs.PriceFile.{table_in};
-ghost use Rattle.prices.specs.Tariff.{tariff};
+ghost use Rattle.prices.specs.Tariff.{tariff_of};
 ghost use Rattle.prices.specs.Offer.{built_in_offer, file_offer};
 ghost use Rattle.request_log.specs.Contents.{setup_in};
 ghost use Rattle.online.specs.Rules.{fresh, zeros};
 ghost use Rattle.online.specs.Answers.{started_by, started, started_for_log};
 ghost use Rattle.online.specs.StartLaws.{WithPrices};
 
-use crate::{Cache, StartOutcome, Started};
+use crate::{Cache, Started};
 use base::Verdict;
 use base::sets::put;
-use base::widths::u16_from_u8;
-use prices::{Prices, built_in, ended, file_fault, of_class};
+use prices::{Prices, Tariff, ended};
 use request_log::{Header, Setup, offered_fault, setup_fault};
 
 // What a start is judged by: all that it is given but the id.
@@ -31,19 +31,14 @@ fn fresh(prices: Prices, header: Header) -> Cache
     ensures { WithPrices prices header (λ table. result ≡ fresh table header) }
 {
     let id = header.id;
-    let last = u16_from_u8(header.home);
+    let last = u16::from(header.home);
     Cache {
         prices,
         id,
         server_count: header.server_count,
         last,
-        second: 0,
-        last_use: [0u32; 64],
         holders: put(0, last),
-        requests: 0,
-        transfers: 0,
-        held: 0,
-        closed: false,
+        ..zeros()
     }
 }
 
@@ -73,18 +68,11 @@ fn zeros() -> Cache
 fn given(v: Verdict, prices: Prices, header: Header) -> Started
     ensures { WithPrices prices header (λ table. result ≡ started_by v table header) }
 {
-    if let Verdict::Refused(r) = v {
-        let blank = zeros();
-        return Started {
-            cache: blank,
-            outcome: StartOutcome::Refused(r),
-        };
-    }
-    let ready = fresh(prices, header);
-    Started {
-        cache: ready,
-        outcome: StartOutcome::Ready,
-    }
+    let cache = match v {
+        Ok(()) => fresh(prices, header),
+        Err(_) => zeros(),
+    };
+    Started { cache, outcome: v }
 }
 
 impl Cache {
@@ -92,26 +80,25 @@ impl Cache {
     pub fn start(header: Header) -> Started
         ensures { result ≡ started built_in_offer header }
     {
-        let prices = built_in();
-        let setup = setup_in(header);
-        let v = offered_fault(Verdict::Passed, &prices, ended(header.class), setup);
-        given(v, of_class(&prices, header.class), header)
+        let tariff = Tariff::built_in();
+        let v = offered_fault(tariff, ended(header.class), setup_in(header));
+        given(v, tariff.of_class(header.class), header)
     }
 
     // A start by a price file: 37, 38, 3 to 5.
     pub fn start_with(prices: &[u8], header: Header) -> Started
         ensures { result ≡ started (file_offer prices.now) header }
     {
-        let setup = setup_in(header);
-        let v = offered_fault(file_fault(prices), prices, false, setup);
-        given(v, of_class(prices, header.class), header)
+        let tariff = Tariff::of_file(prices);
+        let loaded = offered_fault(tariff, false, setup_in(header));
+        given(loaded, tariff.of_class(header.class), header)
     }
 
     // A start for a log that there is, by a price file and what that was answered: 3 to 5.
-    pub fn start_for_log(v: Verdict, prices: &[u8], header: Header) -> Started
-        ensures { result ≡ started_for_log (tariff v (table_in prices.now)) header }
+    pub fn start_for_log(tariff: Tariff, header: Header) -> Started
+        ensures { result ≡ started_for_log (tariff_of tariff.entry) header }
     {
-        let fault = setup_fault(v, prices, setup_in(header));
-        given(fault, of_class(prices, header.class), header)
+        let fault = setup_fault(tariff, setup_in(header));
+        given(fault, tariff.of_class(header.class), header)
     }
 }

@@ -1,11 +1,10 @@
 -- What the planner answers, and what its lent lists hold at the end (01's 'The plan'), by an upload price u where one is given (02's Req 11). Assumes nothing.
-use Rattle.std.specs.Prelude.{List, [], ◌∷◌, ◌++◌, ℕ, suc, length}
+use Rattle.std.specs.Prelude.{List, [], ◌∷◌, ◌++◌, ℕ, suc, length, Ok, Err, Result}
+use Rattle.base.specs.declared.Refusal.{Refusal}
 use Rattle.std.proofs.Math.Option.{Option}
 use Rattle.base.specs.Lists.{build}
-use Rattle.base.specs.Refusals.{first, otherwise, short}
+use Rattle.base.specs.Refusals.{first, otherwise, short, Verdict}
 use Rattle.base.specs.Lent.{lent}
-use Rattle.base.specs.declared.Verdict.{Verdict}
-use Rattle.base.specs.declared.Verdict.TheVariants.{Passed, Refused}
 use Rattle.prices.specs.Tariff.{Tariff}
 use Rattle.prices.specs.Uploads.{upload_conditions}
 use Rattle.request_log.specs.Fields.{server_count_of, request_count}
@@ -15,10 +14,7 @@ use Rattle.model.specs.RowForm.{flat}
 use Rattle.model.specs.Marking.{Mark, K, S, U}
 use Rattle.model.specs.Plan.{plan, plan_cost, plan_rows}
 use Rattle.model.specs.LogRequests.{requests_in, rates_in}
-use Rattle.planner.specs.declared.Planned.{Planned}
-use Rattle.planner.specs.declared.Planned.TheVariants as planned'
-use Rattle.planner.specs.declared.LeastCosts.{LeastCosts}
-use Rattle.planner.specs.declared.LeastCosts.TheVariants as least'
+use Rattle.planner.specs.Outcome.{Outcome, a_plan}
 
 -- a mark as one ASCII letter
 unfoldable pub letter : Mark → ℕ
@@ -44,9 +40,9 @@ plan_verdict t u log marks rows =
     otherwise t.judged (first (log_conditions t.table log ++ (upload_conditions u ++ (short (request_count log) marks ∷ short (length (rows_of_plan t u log)) rows ∷ []))))
 
 -- the plan's answer by its verdict: the cost and the number of rows, or the refusal
-unfoldable pub planned : Verdict → Tariff → Option ℕ → List ℕ → Planned
-planned Passed t u log = planned'.Plan (plan_cost (rates_in t u log) (requests_in log) (request_count log)) (length (planned_rows t u log))
-planned (Refused r) t u log = planned'.Refused r
+unfoldable pub planned : Verdict → Tariff → Option ℕ → List ℕ → Outcome
+planned (Ok _) t u log = a_plan (plan_cost (rates_in t u log) (requests_in log) (request_count log)) (length (planned_rows t u log))
+planned (Err r) t u log = Err r
 
 -- what the lent lists hold at the end
 abbrev pub marks_left : Tariff → Option ℕ → List ℕ → List ℕ → List ℕ → List ℕ
@@ -64,9 +60,9 @@ unfoldable pub least_verdict : Tariff → Option ℕ → List ℕ → ℕ → Ve
 least_verdict t u log costs = otherwise t.judged (first (log_conditions t.table log ++ (upload_conditions u ++ (short (suc (request_count log)) costs ∷ []))))
 
 -- the answer by that verdict: how many costs were written, or the refusal
-unfoldable pub least_answer : Verdict → List ℕ → LeastCosts
-least_answer Passed log = least'.Costs (suc (request_count log))
-least_answer (Refused r) log = least'.Refused r
+unfoldable pub least_answer : Verdict → List ℕ → Result ℕ Refusal
+least_answer (Ok _) log = Ok (suc (request_count log))
+least_answer (Err r) log = Err r
 
 -- what the lent list holds at the end
 abbrev pub costs_left : Tariff → Option ℕ → List ℕ → List ℕ → List ℕ

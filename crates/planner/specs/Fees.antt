@@ -1,19 +1,21 @@
 -- What a plan is billed by, as the code holds it. Assumes nothing.
+use Rattle.std.specs.Prelude.{ℕ, Some, None}
+use Rattle.std.specs.Prelude.{Option as Given}
 use Rattle.std.proofs.Math.Option.{Option, none, some}
-use Rattle.std.specs.Prelude.{ℕ, eqb}
-use Rattle.base.specs.Choice.{pick}
 use Rattle.prices.specs.declared.Prices.{Prices}
-use Rattle.model.specs.Rates.{Rates, or_zero}
+use Rattle.prices.specs.Uploads.{if_given}
+use Rattle.model.specs.Rates.{Rates}
 use Rattle.planner.specs.declared.requests.Fees.{Fees}
 
--- the upload price that a number stands for: none where it is 0
-unfoldable pub price_given : ℕ → Option ℕ
-price_given y = pick (eqb y 0) none (some y)
+-- an upload price as the code holds it
+unfoldable pub offered : Option ℕ → Given ℕ
+offered none = None
+offered (some y) = Some y
 
 -- a class's prices and an upload price, as the code holds them
 unfoldable pub fees_of : Prices → Option ℕ → Fees
-fees_of p u = record { hold = p.hold; transfer = p.transfer; upload = or_zero u }
+fees_of p u = record { hold = p.hold; transfer = p.transfer; upload = offered u }
 
 -- the rates that they stand for
 abbrev pub rated : Fees → Rates
-rated f = record { hold = f.hold; transfer = f.transfer; upload = price_given f.upload }
+rated f = record { hold = f.hold; transfer = f.transfer; upload = if_given f.upload }

@@ -14,7 +14,7 @@ pub set_next : (xs o : List ℕ) (k v : ℕ) → length xs ≡ k → k < length 
 set_next xs o k v e h = rw (drop-cons o k 0 h, set_at xs (get_or o k 0) (drop (suc k) o) v k e) (sym (append_snoc xs v (drop (suc k) o)))
 
 -- the first element
-pub set_first : (o : List ℕ) (v : ℕ) → 0 < length o → set o 0 v ≡ v ∷ drop 1 (set o 0 v)
+pub set_first : (o : List ℕ) (v : ℕ) → 0 < length o → set o 0 v ≡ v ∷ drop 1 o
 set_first [] v h = absurd (omega arith)
 set_first (x ∷ o) v h = refl
 

@@ -1,5 +1,6 @@
 -- The planner.
 -- What a reader believes: what its calls answer.
+pub mod Outcome
 pub mod Answers
 pub mod Sizes
 -- How the code comes by it, and why that is the same.
@@ -8,6 +9,7 @@ pub mod Fees
 pub mod FeeLaws
 pub mod Terms
 pub mod Fits
+pub mod Prepared
 pub mod TermLaws
 pub mod StepLaws
 pub mod ReadyLaws
@@ -27,6 +29,7 @@ pub mod GapWordLaws
 pub mod HolderWords
 pub mod HolderWordLaws
 pub mod WordRows
+pub mod Basis
 pub mod WordRowLaws
 pub mod RowWriting
 pub mod RowSteps

@@ -1,7 +1,7 @@
 -- A list with a place for home before its requests: all but the first element is lent to the reader and comes back.
 use Rattle.std.specs.Prelude.{List, ◌++◌, ◌≡◌, ℕ, ◌-◌, length, take, drop}
+use Rattle.base.specs.Refusals.{Verdict}
 use Rattle.std.proofs.Common.{append-nil, ap, ap₂, ◌∙◌, arith, length-drop, drop_of_length-le, take_all}
-use Rattle.base.specs.declared.Verdict.{Verdict}
 use Rattle.base.specs.Lent.{lent}
 use Rattle.request_log.specs.Sizes.{most_requests}
 use Rattle.planner.specs.Sizes.{places}

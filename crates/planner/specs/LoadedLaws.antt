@@ -1,6 +1,6 @@
 -- The lists that are loaded from an accepted log: its requests, with room after them that changes nothing, and ready for the table.
 use mathlib.Core.List.{List, [], ◌∷◌, ◌++◌}
-use Rattle.std.specs.Prelude.{◌⊎◌, ◌≡◌, refl, length, take, drop, set, replicate}
+use Rattle.std.specs.Prelude.{◌⊎◌, ◌≡◌, refl, length, take, drop, set, replicate, Ok, Err}
 use Rattle.std.proofs.Common.{inl, inr, sym, ◌∙◌, arith, take-append-drop, get_or-append-add}
 use Rattle.std.proofs.Math.Option.{Option}
 use Rattle.std.proofs.Math.Path.{ap, ap₂, fun_ext}
@@ -9,10 +9,8 @@ use Rattle.std.proofs.lemmas.List.{length-replicate, get_or-replicate}
 use Rattle.std.proofs.Math.ListN.{get_or-append, get_or-eq_default}
 use Rattle.base.specs.Choice.{le_or_lt}
 use Rattle.base.specs.Lent.{lent}
-use Rattle.base.specs.Refusals.{first}
+use Rattle.base.specs.Refusals.{first, Verdict}
 use Rattle.base.specs.Lists.{build, build_at}
-use Rattle.base.specs.declared.Verdict.{Verdict}
-use Rattle.base.specs.declared.Verdict.TheVariants.{Passed, Refused}
 use Rattle.prices.specs.Tariff.{Tariff}
 use Rattle.prices.specs.PriceLaws.{Priced}
 use Rattle.prices.specs.Uploads.{upload_conditions}
@@ -33,26 +31,26 @@ use Rattle.planner.specs.Fits.{Fits, Ready}
 use Rattle.planner.specs.Loading.{seconds_with_home, servers_with_home, links}
 
 -- home's element, put before a list that was lent
-home_put : (o xs : List ℕ) (h : ℕ) → 1 ≤ length o → set (take 1 o ++ lent Passed xs (drop 1 o)) 0 h ≡ lent Passed (h ∷ xs) o
+home_put : (o xs : List ℕ) (h : ℕ) → 1 ≤ length o → set (take 1 o ++ lent (Ok tt) xs (drop 1 o)) 0 h ≡ lent (Ok tt) (h ∷ xs) o
 unfolding lent
 home_put [] xs h l = absurd (omega arith)
 home_put (y ∷ o) xs h l =
     let z : length o - length xs ≡ suc (length o) - suc (length xs) = omega arith in
     ap (λ (k : ℕ). h ∷ (xs ++ replicate k 0)) z
 
-pub home_loaded : (v : Verdict) (o xs ys : List ℕ) (h k : ℕ) → v ≡ Passed → ys ≡ take 1 o ++ lent v xs (drop 1 o) → k ≡ h → 1 ≤ length o
+pub home_loaded : (v : Verdict) (o xs ys : List ℕ) (h k : ℕ) → v ≡ Ok tt → ys ≡ take 1 o ++ lent v xs (drop 1 o) → k ≡ h → 1 ≤ length o
     → set ys 0 k ≡ lent v (h ∷ xs) o
-home_loaded Passed o xs ys h k e f g l = ap₂ (λ (x : List ℕ) (y : ℕ). set x 0 y) f g ∙ home_put o xs h l
-home_loaded (Refused r) o xs ys h k e f g l = absurd (let z : ◌≡◌ {A = ℕ} 0 1 = cc in omega arith)
+home_loaded (Ok _) o xs ys h k e f g l = ap₂ (λ (x : List ℕ) (y : ℕ). set x 0 y) f g ∙ home_put o xs h l
+home_loaded (Err r) o xs ys h k e f g l = absurd (let z : ◌≡◌ {A = ℕ} 0 1 = cc in omega arith)
 
 -- nothing is changed by a refusal
-pub home_kept : (v : Verdict) (r : Refusal) (o xs ys zs : List ℕ) → v ≡ Refused r → ys ≡ take 1 o ++ lent v xs (drop 1 o) → ys ≡ lent v zs o
+pub home_kept : (v : Verdict) (r : Refusal) (o xs ys zs : List ℕ) → v ≡ Err r → ys ≡ take 1 o ++ lent v xs (drop 1 o) → ys ≡ lent v zs o
 unfolding lent
-home_kept Passed r o xs ys zs e f = absurd (let z : ◌≡◌ {A = ℕ} 0 1 = cc in omega arith)
-home_kept (Refused r') r o xs ys zs e f = f ∙ take-append-drop 1 o
+home_kept (Ok _) r o xs ys zs e f = absurd (let z : ◌≡◌ {A = ℕ} 0 1 = cc in omega arith)
+home_kept (Err r') r o xs ys zs e f = f ∙ take-append-drop 1 o
 
 -- zeros after a list are what is read past its end
-pub at_lent : (xs o : List ℕ) → at (lent Passed xs o) ≡ at xs
+pub at_lent : (xs o : List ℕ) → at (lent (Ok tt) xs o) ≡ at xs
 unfolding lent
 at_lent xs o = fun_ext λ i. go i (le_or_lt (length xs) i)
   where
@@ -66,7 +64,7 @@ at_lent xs o = fun_ext λ i. go i (le_or_lt (length xs) i)
     go i (inr h) = get_or-append xs (replicate (length o - length xs) 0) 0 i h
 
 -- nor do they change what links are made from it
-pub links_lent : (xs o : List ℕ) (n : ℕ) → links (lent Passed xs o) n ≡ links xs n
+pub links_lent : (xs o : List ℕ) (n : ℕ) → links (lent (Ok tt) xs o) n ≡ links xs n
 unfolding links
 links_lent xs o n = ap (λ (s : ℕ → ℕ). build (suc n) (λ i. index (latest s (s i) i))) (at_lent xs o)
 
@@ -93,23 +91,23 @@ module _ (t : Tariff) (log : List ℕ) (ok : Accepted t log) where
   pub lent_small : (o x : List ℕ) → x ≡ lent (verdict_of t log) (servers_with_home log) o → (k : ℕ) → at x k < 64
   unfolding Accepted
   lent_small o x f k =
-      let g : x ≡ lent Passed (servers_with_home log) o = f ∙ ap (λ (w : Verdict). lent w (servers_with_home log) o) ok in
+      let g : x ≡ lent (Ok tt) (servers_with_home log) o = f ∙ ap (λ (w : Verdict). lent w (servers_with_home log) o) ok in
       let e : at x k ≡ at (servers_with_home log) k = ap (λ (y : List ℕ). at y k) g ∙ ap (λ (s : ℕ → ℕ). s k) (at_lent (servers_with_home log) o) in
       omega (arith, servers_small k)
 
   -- and the links made from such a list are those of its requests
   pub links_loaded : (o p x y : List ℕ) (n : ℕ) → x ≡ lent (verdict_of t log) (servers_with_home log) o → n ≡ request_count log
-      → y ≡ lent Passed (links x n) p → y ≡ lent (verdict_of t log) (links (servers_with_home log) (request_count log)) p
+      → y ≡ lent (Ok tt) (links x n) p → y ≡ lent (verdict_of t log) (links (servers_with_home log) (request_count log)) p
   unfolding Accepted
   links_loaded o p x y n f e g =
-      let w : x ≡ lent Passed (servers_with_home log) o = f ∙ ap (λ (w : Verdict). lent w (servers_with_home log) o) ok in
+      let w : x ≡ lent (Ok tt) (servers_with_home log) o = f ∙ ap (λ (w : Verdict). lent w (servers_with_home log) o) ok in
       g
-      ∙ ap₂ (λ (l : List ℕ) (k : ℕ). lent Passed (links l k) p) w e
-      ∙ ap (λ (l : List ℕ). lent Passed l p) (links_lent (servers_with_home log) o (request_count log))
+      ∙ ap₂ (λ (l : List ℕ) (k : ℕ). lent (Ok tt) (links l k) p) w e
+      ∙ ap (λ (l : List ℕ). lent (Ok tt) l p) (links_lent (servers_with_home log) o (request_count log))
       ∙ ap (λ (w : Verdict). lent w (links (servers_with_home log) (request_count log)) p) (sym ok)
 
   -- all costs fit
-  pub log_fits : Priced t → (u : Option ℕ) → first (upload_conditions u) ≡ Passed → Fits (rates_in t u log) (requests_in log) (request_count log)
+  pub log_fits : Priced t → (u : Option ℕ) → first (upload_conditions u) ≡ Ok tt → Fits (rates_in t u log) (requests_in log) (request_count log)
   unfolding rates
   log_fits priced u offer =
       let p = log_priced t priced log ok in
@@ -129,13 +127,13 @@ module _ (t : Tariff) (log : List ℕ) (ok : Accepted t log) where
 
   module _ (o₁ o₂ o₃ : List ℕ) where
     -- the requests that the lists hold are the log's
-    pub lent_requests : asks (lent Passed (seconds_with_home log) o₁) (lent Passed (servers_with_home log) o₂) ≡ requests_in log
+    pub lent_requests : asks (lent (Ok tt) (seconds_with_home log) o₁) (lent (Ok tt) (servers_with_home log) o₂) ≡ requests_in log
     lent_requests =
         ap₂ (λ (t s : ℕ → ℕ). record { time = t; server = s }) (at_lent (seconds_with_home log) o₁) (at_lent (servers_with_home log) o₂) ∙ with_home log
 
     -- and they are ready
-    pub lent_ready : Priced t → (u : Option ℕ) → first (upload_conditions u) ≡ Passed → Ready (rates_in t u log) (lent Passed (seconds_with_home log) o₁) (lent Passed (servers_with_home log) o₂)
-        (lent Passed (links (servers_with_home log) (request_count log)) o₃) (request_count log)
+    pub lent_ready : Priced t → (u : Option ℕ) → first (upload_conditions u) ≡ Ok tt → Ready (rates_in t u log) (lent (Ok tt) (seconds_with_home log) o₁) (lent (Ok tt) (servers_with_home log) o₂)
+        (lent (Ok tt) (links (servers_with_home log) (request_count log)) o₃) (request_count log)
     lent_ready p u offer =
         record {
           fits = rw lent_requests (log_fits p u offer);

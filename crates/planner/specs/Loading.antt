@@ -1,10 +1,9 @@
 -- What is read from a log before the table is made. Assumes nothing.
-use Rattle.std.specs.Prelude.{List, ◌∷◌, ℕ, suc}
+use Rattle.std.specs.Prelude.{List, ◌∷◌, ℕ, suc, Ok, Err, Result}
+use Rattle.base.specs.declared.Refusal.{Refusal}
 use Rattle.std.proofs.Math.Option.{Option}
 use Rattle.base.specs.Lists.{build}
-use Rattle.base.specs.declared.Verdict.{Verdict}
-use Rattle.base.specs.declared.Verdict.TheVariants.{Passed, Refused}
-use Rattle.base.specs.Refusals.{first, otherwise}
+use Rattle.base.specs.Refusals.{first, otherwise, Verdict}
 use Rattle.prices.specs.Tariff.{Tariff}
 use Rattle.prices.specs.Uploads.{upload_conditions}
 use Rattle.request_log.specs.Fields.{home_of, server_count_of, request_count, seconds_of, servers_of}
@@ -13,8 +12,6 @@ use Rattle.model.specs.Requests.{latest}
 use Rattle.model.proofs.TableLists.{at}
 use Rattle.model.specs.LogRequests.{prices_in}
 use Rattle.planner.specs.declared.requests.Summary.{Summary}
-use Rattle.planner.specs.declared.requests.Loaded.{Loaded}
-use Rattle.planner.specs.declared.requests.Loaded.TheVariants as loaded'
 use Rattle.planner.specs.Fees.{fees_of}
 use Rattle.planner.specs.Terms.{index}
 
@@ -38,6 +35,6 @@ unfoldable pub summary_of : Tariff → Option ℕ → List ℕ → Summary
 summary_of t u log = record { requests = request_count log; server_count = server_count_of log; fees = fees_of (prices_in t log) u }
 
 -- that, by a verdict
-unfoldable pub loaded : Verdict → Summary → Loaded
-loaded Passed s = loaded'.Log s
-loaded (Refused r) s = loaded'.Refused r
+unfoldable pub loaded : Verdict → Summary → Result Summary Refusal
+loaded (Ok _) s = Ok s
+loaded (Err r) s = Err r

@@ -1,13 +1,11 @@
 -- The answer from a plan's letters is the planner's answer.
-use Rattle.std.specs.Prelude.{List, [], ◌∷◌, ◌++◌, ◌≡◌, refl, ℕ, zero, suc, ◌≤◌, length, get_or, take}
+use Rattle.std.specs.Prelude.{List, [], ◌∷◌, ◌++◌, ◌≡◌, refl, ℕ, zero, suc, ◌≤◌, length, get_or, take, Ok, Err}
 use Rattle.std.proofs.Math.Option.{Option}
 use Rattle.std.proofs.Common.{sym, ap, ◌∙◌, arith, length-append, get_or-take, take_at}
 use Rattle.base.specs.Lists.{build, build_length, build_at}
 use Rattle.base.specs.Lent.{lent}
-use Rattle.base.specs.Refusals.{short, otherwise}
+use Rattle.base.specs.Refusals.{short, otherwise, Verdict}
 use Rattle.base.specs.declared.Refusal.{Refusal}
-use Rattle.base.specs.declared.Verdict.{Verdict}
-use Rattle.base.specs.declared.Verdict.TheVariants.{Passed, Refused}
 use Rattle.request_log.specs.Sizes.{most_requests}
 use Rattle.prices.specs.Tariff.{Tariff}
 use Rattle.request_log.specs.Fields.{request_count}
@@ -18,7 +16,6 @@ use Rattle.model.specs.Plan.{plan, plan_cost, plan_rows, Agree}
 use Rattle.model.proofs.PlanLaws.{plan_planned, plan_best}
 use Rattle.model.specs.LogRequests.{requests_in, rates_in}
 use Rattle.model.specs.Rates.{Rates}
-use Rattle.planner.specs.declared.Planned.{Planned}
 use Rattle.planner.specs.declared.requests.Summary.{Summary}
 use Rattle.planner.specs.Loading.{offer_verdict, summary_of}
 use Rattle.planner.specs.SummaryLaws.{offer_parts}
@@ -27,6 +24,7 @@ use Rattle.planner.specs.Asked.{asks}
 use Rattle.planner.specs.WordRowLaws.{gap_words_right, word_rows_right}
 use Rattle.planner.specs.Answers.{letter, marks_of, planned_rows, rows_of_plan, plan_verdict, planned, marks_left, rows_left}
 use Rattle.planner.specs.PlanAnswer.{Marked, Answered, PlanAnswered, marked_rows, plan_letters, lengths_verdict, answer_of}
+use Rattle.planner.specs.Outcome.{Outcome}
 
 -- a letter spells its mark
 spells : (a : Mark) → spelled (letter a) ≡ a
@@ -105,7 +103,7 @@ module _ (p : Rates) (n count : ℕ) (seconds servers letters : List ℕ)
   rows_marked = rows_agree p (asks seconds servers) (plan p (asks seconds servers) n) (marking letters) n count agree lawful within narrow
 
   -- so the answer from them is the plan's
-  pub plan_answered : (cost : ℕ) (marks rows : List ℕ) (r : Planned) (marks' rows' : List ℕ) → cost ≡ plan_cost p (asks seconds servers) n
+  pub plan_answered : (cost : ℕ) (marks rows : List ℕ) (r : Outcome) (marks' rows' : List ℕ) → cost ≡ plan_cost p (asks seconds servers) n
       → Answered (marked_rows n count seconds servers letters) n cost (take n letters) marks rows r marks' rows'
       → PlanAnswered p (asks seconds servers) n count marks rows r marks' rows'
   plan_answered cost marks rows r marks' rows' e x =
@@ -113,7 +111,7 @@ module _ (p : Rates) (n count : ℕ) (seconds servers letters : List ℕ)
       record { answers = y.answers ∙ rw e; marks_left = y.marks_left ∙ rw spelt; rows_left = y.rows_left }
 
 -- the answer for a log, and what the lent lists hold at the end
-abbrev pub PlannedSo : Tariff → Option ℕ → List ℕ → List ℕ → List ℕ → Planned → List ℕ → List ℕ → Type 0
+abbrev pub PlannedSo : Tariff → Option ℕ → List ℕ → List ℕ → List ℕ → Outcome → List ℕ → List ℕ → Type 0
 PlannedSo t u log marks rows r marks' rows' =
     (r ≡ planned (plan_verdict t u log (length marks) (length rows)) t u log)
     × (marks' ≡ marks_left t u log marks rows)
@@ -126,23 +124,23 @@ unfolding plan_verdict lengths_verdict rows_of_plan
 plan_parts t u log marks rows = offer_parts t u log (short (request_count log) (length marks) ∷ short (length (rows_of_plan t u log)) (length rows) ∷ [])
 
 -- a refused log or upload price
-pub log_refused : (t : Tariff) (u : Option ℕ) (log marks rows : List ℕ) (e : Refusal) (r : Planned) → offer_verdict t u log ≡ Refused e → r ≡ answer_of (Refused e) 0 0
+pub log_refused : (t : Tariff) (u : Option ℕ) (log marks rows : List ℕ) (e : Refusal) (r : Outcome) → offer_verdict t u log ≡ Err e → r ≡ answer_of (Err e) 0 0
     → PlannedSo t u log marks rows r marks rows
 unfolding planned lent answer_of
 log_refused t u log marks rows e r v a =
-    let w : plan_verdict t u log (length marks) (length rows) ≡ Refused e = plan_parts t u log marks rows ∙ rw v in
+    let w : plan_verdict t u log (length marks) (length rows) ≡ Err e = plan_parts t u log marks rows ∙ rw v in
     (rw w a, rw w, rw w)
 
 -- an answer by a verdict
 answer_planned : (v : Verdict) (t : Tariff) (u : Option ℕ) (log : List ℕ)
     → answer_of v (plan_cost (rates_in t u log) (requests_in log) (request_count log)) (length (planned_rows t u log)) ≡ planned v t u log
 unfolding answer_of planned
-answer_planned Passed t u log = refl
-answer_planned (Refused e) t u log = refl
+answer_planned (Ok _) t u log = refl
+answer_planned (Err e) t u log = refl
 
 -- an accepted log, by its requests as they were read and what its plan is billed by
-pub log_answered : (t : Tariff) (u : Option ℕ) (log : List ℕ) → offer_verdict t u log ≡ Passed → (s : Summary) → s ≡ summary_of t u log
-    → (q : Requests) → q ≡ requests_in log → (p : Rates) → p ≡ rates_in t u log → (marks rows : List ℕ) (r : Planned) (marks' rows' : List ℕ)
+pub log_answered : (t : Tariff) (u : Option ℕ) (log : List ℕ) → offer_verdict t u log ≡ Ok tt → (s : Summary) → s ≡ summary_of t u log
+    → (q : Requests) → q ≡ requests_in log → (p : Rates) → p ≡ rates_in t u log → (marks rows : List ℕ) (r : Outcome) (marks' rows' : List ℕ)
     → PlanAnswered p q s.requests s.server_count marks rows r marks' rows' → PlannedSo t u log marks rows r marks' rows'
 unfolding lengths_verdict rows_of_plan planned_rows marks_of plan_letters summary_of
 log_answered t u log ok s e q f p g marks rows r marks' rows' x =

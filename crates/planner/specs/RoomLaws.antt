@@ -1,12 +1,10 @@
 -- Lists that have room for a log's answer: a call that is lent them refuses by the log's conditions alone.
-use Rattle.std.specs.Prelude.{List, ◌++◌, ◌≡◌, ℕ, suc, ◌*◌, ◌≤◌, length}
+use Rattle.std.specs.Prelude.{List, ◌++◌, ◌≡◌, ℕ, suc, ◌*◌, ◌≤◌, length, Ok, Err}
 use Rattle.std.proofs.Math.Option.{none}
 use Rattle.std.proofs.Math.Path.{refl}
 use Rattle.std.proofs.Common.{◌∙◌, arith}
 use borrow.Author.Tests.{le-ltb}
-use Rattle.base.specs.Refusals.{Condition, first, otherwise}
-use Rattle.base.specs.declared.Verdict.{Verdict}
-use Rattle.base.specs.declared.Verdict.TheVariants.{Passed, Refused}
+use Rattle.base.specs.Refusals.{Condition, first, otherwise, Verdict}
 use Rattle.prices.specs.Tariff.{Tariff}
 use Rattle.prices.specs.Uploads.{upload_conditions}
 use Rattle.request_log.specs.Sizes.{most_requests}
@@ -29,13 +27,13 @@ Roomy t log marks rows = Accepted t log → (request_count log ≤ marks) × (8 
 
 module _ (t : Tariff) (log : List ℕ) where
   -- conditions that no accepted log meets add nothing to a log's
-  no_more : (own : List Condition) → (Accepted t log → first own ≡ Passed) → otherwise t.judged (first (log_conditions t.table log ++ own)) ≡ verdict_of t log
+  no_more : (own : List Condition) → (Accepted t log → first own ≡ Ok tt) → otherwise t.judged (first (log_conditions t.table log ++ own)) ≡ verdict_of t log
   unfolding Accepted
   no_more own h = after_log t log own ∙ go (verdict_of t log) refl
     where
       go : (v : Verdict) → verdict_of t log ≡ v → otherwise (verdict_of t log) (first own) ≡ verdict_of t log
-      go Passed e = rw e (h e)
-      go (Refused r) e = rw e
+      go (Ok _) e = rw e (h e)
+      go (Err r) e = rw e
 
   -- an accepted log's plan has at most two rows for each request
   pub few_rows : Accepted t log → length (planned_rows t none log) ≤ 2 * request_count log

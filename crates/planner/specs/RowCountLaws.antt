@@ -6,6 +6,7 @@ use Rattle.std.proofs.Math.Path.{refl, sym, ap}
 use native.Mathlib.Omega.{arith}
 use Prim.Native.Nat.{ℕ, zero, suc, pred, ◌+◌, ◌/◌, ◌%◌, ◌^◌, ◌≤◌, ◌<◌}
 use Rattle.std.specs.Int.Bits.{bit_and}
+use mir.Val.{bool_byte}
 use Rattle.std.proofs.lemmas.Nat.{and_shr, and_mod}
 use Rattle.std.proofs.Math.ListN.{length, length-append}
 use Rattle.base.specs.Choice.{pick, both, le_or_lt, true_or_false}
@@ -130,6 +131,15 @@ moves_length q m from (suc n) = go (m (suc n)) (moves_length q m from n)
     go K ih = omega (arith, length-append (transfers q m from n) [], length-append (uploads q m n) [])
     go S ih = omega (arith, length-append (transfers q m from n) (row ∷ []), length-append (uploads q m n) [])
     go U ih = omega (arith, length-append (transfers q m from n) [], length-append (uploads q m n) (load ∷ []))
+
+-- the transfer or upload to a request, as the number of a test
+pub sent_number : (m : ℕ → Mark) (i : ℕ) → (bool_byte (not (keeps (m i))) ≡ sent_at m i) × (sent_at m i ≤ 1)
+unfolding sent_at
+sent_number m i = go (keeps (m i))
+  where
+    go : (b : Bool) → (bool_byte (not b) ≡ pick b 0 1) × (pick b 0 1 ≤ 1)
+    go true = (refl, omega arith)
+    go false = (refl, omega arith)
 
 -- ---- the rows
 

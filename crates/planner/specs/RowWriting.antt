@@ -1,7 +1,7 @@
 -- Rows put into a list of numbers, one after the other; a row that does not fit is left out. Assumes nothing.
-use Rattle.std.specs.Prelude.{List, [], ◌∷◌, ◌++◌, ◌≡◌, refl, ℕ, suc, ◌+◌, ◌*◌, ◌≤◌, length, take, drop, set}
+use Rattle.std.specs.Prelude.{Bool, true, false, List, [], ◌∷◌, ◌++◌, ◌≡◌, refl, ℕ, suc, ◌+◌, ◌*◌, ◌≤◌, length, take, drop, Option, None, Some}
 use Rattle.std.proofs.Common.{append_assoc, sym, ap, ap₂, ◌∙◌, arith, length-append, length-take, take-append-drop, take_at, drop_at, drop-drop}
-use Rattle.std.proofs.lemmas.List.Edits.{sets-eq}
+use Rattle.base.specs.Choice.{pick}
 use Rattle.base.specs.Lists.{splice, splice_fits, splice_length}
 use Rattle.model.specs.Schedule.{Row, hold, move, transfer, upload}
 use Rattle.model.specs.RowForm.{numbers, flat}
@@ -17,12 +17,6 @@ unfolding numbers
 numbers_length (hold x a b) = refl
 numbers_length (move (transfer y x τ)) = refl
 numbers_length (move (upload x τ)) = refl
-
--- the length stays
-pub put_rows_length : (k : ℕ) (rows : List Row) (o : List ℕ) → length (put_rows k rows o) ≡ length o
-unfolding put_rows
-put_rows_length k [] o = refl
-put_rows_length k (r ∷ rows) o = put_rows_length (suc k) rows (splice (4 * k) (numbers r) o) ∙ splice_length (4 * k) (numbers r) o
 
 -- two lists of rows, one after the other
 pub put_rows_append : (k : ℕ) (xs ys : List Row) (o : List ℕ) → put_rows k (xs ++ ys) o ≡ put_rows (k + length xs) ys (put_rows k xs o)
@@ -92,21 +86,24 @@ pub put_next : (k : ℕ) (xs ys : List Row) (o : List ℕ) (b c : ℕ) (p r : Li
 put_next k xs ys o b c p r h e f =
     (omega (arith, length-append xs ys), f ∙ ap₂ (λ (j : ℕ) (l : List ℕ). put_rows j ys l) h.0 h.1 ∙ sym (put_rows_append k xs ys o))
 
--- a list of rows that is empty, and one of one row
-pub put_empty : (k : ℕ) (rows : List Row) (o : List ℕ) → rows ≡ [] → Put k rows o k o
-put_empty k rows o e = rw e (put_none k o)
+-- the numbers of the row that there is, of none or one
+abbrev pub row_given : List Row → Option (List ℕ)
+row_given [] = None
+row_given (r ∷ rows) = Some (numbers r)
 
-pub put_single : (k : ℕ) (rows : List Row) (r : Row) (o p : List ℕ) → rows ≡ r ∷ [] → p ≡ splice (4 * k) (numbers r) o → Put k rows o (k + 1) p
+-- how many rows there are
+abbrev pub rows_in : Option (List ℕ) → ℕ
+rows_in None = 0
+rows_in (Some row) = 1
+
+-- the row put in as row k, if there is one
+abbrev pub put_given : ℕ → Option (List ℕ) → List ℕ → List ℕ
+put_given k None o = o
+put_given k (Some row) o = splice (4 * k) row o
+
+-- after one row more, if there is one
+pub put_more : (k : ℕ) (xs : List Row) (b : Bool) (r : Row) (o : List ℕ) (next : ℕ) (p : List ℕ) → Put k xs o next p
+    → Put k (xs ++ pick b (r ∷ []) []) o (next + rows_in (row_given (pick b (r ∷ []) []))) (put_given next (row_given (pick b (r ∷ []) [])) p)
 unfolding put_rows
-put_single k rows r o p e h = rw e (omega arith, h)
-
--- four numbers set one after the other
-pub set_four : (o : List ℕ) (i a b c d : ℕ) → i + 4 ≤ length o
-    → set (set (set (set o i a) (i + 1) b) (i + 2) c) (i + 3) d ≡ splice i (a ∷ b ∷ c ∷ d ∷ []) o
-set_four o i a b c d h =
-    let row : List ℕ = a ∷ b ∷ c ∷ d ∷ [] in
-    let e₁ : i + 1 ≡ suc i = omega arith in
-    let e₂ : i + 2 ≡ suc (suc i) = omega arith in
-    let e₃ : i + 3 ≡ suc (suc (suc i)) = omega arith in
-    rw (e₁, e₂, e₃)
-    (sets-eq row o i h ∙ append_assoc (take i o) row (drop (i + length row) o) ∙ sym (splice_fits i row o h))
+put_more k xs true r o next p h = put_next k xs (r ∷ []) o next (next + 1) p (splice (4 * next) (numbers r) p) h refl refl
+put_more k xs false r o next p h = put_next k xs [] o next (next + 0) p p h refl refl

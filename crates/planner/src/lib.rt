@@ -10,23 +10,15 @@ mod rows;
 mod table;
 mod walk;
 
-use base::Refusal;
 pub use costs::{least, least_uploads, least_uploads_with, least_with};
 pub use planning::{plan, plan_uploads, plan_uploads_with, plan_with};
 use request_log::MOST_REQUESTS;
 
-// The plan's cost and the number of its rows, or why there is no plan.
-#[derive(Clone, Copy)]
-pub enum Planned {
-    Plan { cost: u64, rows: u32 },
-    Refused(Refusal),
-}
-
-// How many least costs were written, one for each prefix from none to all, or why none was.
-#[derive(Clone, Copy)]
-pub enum LeastCosts {
-    Costs(u32),
-    Refused(Refusal),
+// A plan: its cost and the number of its rows.
+#[derive(Clone, Copy, Debug, PartialEq, Eq)]
+pub struct Planned {
+    pub cost: u64,
+    pub rows: u32,
 }
 
 // What stands for the previous request of a request that has none.

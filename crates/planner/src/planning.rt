@@ -1,39 +1,27 @@
 // The plan of a log: its cost, its marks and its rows.
 ghost use Rattle.std.proofs.Math.Option.{none, some};
 ghost use Rattle.std.specs.Prelude.{◌≡◌, ◌<◌, ◌≤◌, length, take};
-ghost use Rattle.base.specs.declared.Verdict.TheVariants.{Refused};
-ghost use Rattle.prices.specs.PriceFile.{table_in};
 ghost use Rattle.prices.specs.PriceLaws.{Priced};
-ghost use Rattle.prices.specs.Tariff.{tariff, built_in, price_file};
+ghost use Rattle.prices.specs.Tariff.{tariff_of, built_in, price_file};
 ghost use Rattle.prices.specs.Uploads.{if_given};
 ghost use Rattle.model.specs.Requests.{Within};
 ghost use Rattle.planner.specs.Answers.{plan_verdict, planned, marks_left, rows_left};
 ghost use Rattle.planner.specs.Asked.{asks};
 ghost use Rattle.planner.specs.Fees.{rated};
 ghost use Rattle.planner.specs.Fits.{Ready};
-ghost use Rattle.planner.specs.PlanAnswer.{Marked, Answered, PlanAnswered, marked_rows, answer_of};
+ghost use Rattle.planner.specs.PlanAnswer.{Marked, Answered, PlanAnswered, marked_rows};
 
 use crate::holders::{holders, row_count};
-use crate::requests::{Loaded, Summary, load};
-use crate::rows::put_all;
+use crate::requests::{Summary, load};
+use crate::rows::Basis;
 use crate::table::fill;
 use crate::walk::write_marks;
 use crate::{PLACES, Planned};
-use base::bytes::{clear8, clear32, copy};
-use base::widths::{size_from_u16, size_from_u32, u64_from_size};
-use base::{Refusal, Verdict};
-use prices::{built_in, file_fault};
+use base::bytes::clear;
+use base::refusals::refuse_if;
+use base::{Reason, Refusal};
+use prices::Tariff;
 use request_log::MOST_REQUESTS;
-
-// 31: an output is shorter than what is needed.
-fn short(needed: usize) -> Planned
-    ensures { result ≡ answer_of (Refused (record { number = 31; place = needed })) 0 0 }
-{
-    Planned::Refused(Refusal {
-        number: 31,
-        place: u64_from_size(needed),
-    })
-}
 
 // The answer, from the marks of n requests and their cost.
 fn answer(
@@ -45,25 +33,28 @@ fn answer(
     letters: &[u8],
     marks: &mut [u8],
     rows: &mut [u32],
-) -> Planned
+) -> Result<Planned, Refusal>
     requires { Marked n count seconds.now servers.now letters.now }
     ensures { Answered (marked_rows n count seconds.now servers.now letters.now) n cost (take n letters.now) marks.old rows.old result marks.new rows.new }
 {
     let words = holders(servers, letters, n);
     let found = row_count(&words, letters, n);
-    let end = size_from_u16(n);
-    let needed = 4 * size_from_u32(found);
-    if marks.len() < end {
-        return short(end);
-    }
-    if rows.len() < needed {
-        return short(needed);
-    }
-    copy(marks, 0, &letters[..end]);
-    clear8(marks, end);
-    put_all(seconds, servers, &words, letters, n, count, found, rows);
-    clear32(rows, needed);
-    Planned::Plan { cost, rows: found }
+    let end = usize::from(n);
+    let needed = 4 * (found as usize);
+    refuse_if(marks.len() < end, Reason::ShortOutput, end as u64)?;
+    refuse_if(rows.len() < needed, Reason::ShortOutput, needed as u64)?;
+    marks[..end].copy_from_slice(&letters[..end]);
+    clear(marks, end);
+    let basis = Basis {
+        times: seconds,
+        servers,
+        words: &words,
+        letters,
+        n,
+    };
+    basis.put_all(count, found, rows);
+    clear(rows, needed);
+    Ok(Planned { cost, rows: found })
 }
 
 // The plan of the requests that were read.
@@ -74,7 +65,7 @@ fn plan_of(
     previous: &[u16; PLACES],
     marks: &mut [u8],
     rows: &mut [u32],
-) -> Planned
+) -> Result<Planned, Refusal>
     requires ready { Ready (rated summary.fees) seconds.now servers.now previous.now summary.requests }
     requires server_count_bound { (summary.server_count ≤ 64) × Within summary.server_count (asks seconds.now servers.now) summary.requests }
     ensures { PlanAnswered (rated summary.fees) (asks seconds.now servers.now) summary.requests summary.server_count marks.old rows.old result marks.new rows.new }
@@ -105,7 +96,7 @@ fn plan_of(
     answer(
         n,
         summary.server_count,
-        costs[size_from_u16(n)],
+        costs[usize::from(n)],
         seconds,
         servers,
         &letters,
@@ -117,65 +108,66 @@ fn plan_of(
 // The cheapest schedule that there could have been for a log (01's 'The plan'), by a price file and what that was answered, and by an upload price if one is
 // given (02's Req 11): its cost, its marks as letters and its rows.
 fn plan_by(
-    v: Verdict,
-    prices: &[u8],
-    given: bool,
-    upload: u32,
+    tariff: Tariff,
+    upload: Option<u32>,
     log: &[u8],
     marks: &mut [u8],
     rows: &mut [u32],
-) -> Planned
-    requires { Priced (tariff v (table_in prices.now)) }
-    ensures value { result ≡ planned (plan_verdict (tariff v (table_in prices.now)) (if_given given upload) log.now (length marks.old) (length rows.old)) (tariff v (table_in prices.now)) (if_given given upload) log.now }
-    ensures marks_after { marks.new ≡ marks_left (tariff v (table_in prices.now)) (if_given given upload) log.now marks.old rows.old }
-    ensures rows_after { rows.new ≡ rows_left (tariff v (table_in prices.now)) (if_given given upload) log.now marks.old rows.old }
+) -> Result<Planned, Refusal>
+    requires { Priced (tariff_of tariff) }
+    ensures value { result ≡ planned (plan_verdict (tariff_of tariff.entry) (if_given upload) log.now (length marks.old) (length rows.old)) (tariff_of tariff.entry) (if_given upload) log.now }
+    ensures marks_after { marks.new ≡ marks_left (tariff_of tariff.entry) (if_given upload) log.now marks.old rows.old }
+    ensures rows_after { rows.new ≡ rows_left (tariff_of tariff.entry) (if_given upload) log.now marks.old rows.old }
 {
     let mut seconds = [0u32; PLACES];
     let mut servers = [0u16; PLACES];
     let mut previous = [0u16; PLACES];
-    let loaded = load(
-        v,
-        prices,
-        given,
+    let summary = load(
+        tariff,
         upload,
         log,
         &mut seconds,
         &mut servers,
         &mut previous,
-    );
-    match loaded {
-        Loaded::Refused(r) => Planned::Refused(r),
-        Loaded::Log(summary) => plan_of(summary, &seconds, &servers, &previous, marks, rows),
-    }
+    )?;
+    plan_of(summary, &seconds, &servers, &previous, marks, rows)
 }
 
 // The same by the built-in table, with no upload price.
-pub fn plan(log: &[u8], marks: &mut [u8], rows: &mut [u32]) -> Planned
+pub fn plan(log: &[u8], marks: &mut [u8], rows: &mut [u32]) -> Result<Planned, Refusal>
     ensures value { result ≡ planned (plan_verdict built_in none log.now (length marks.old) (length rows.old)) built_in none log.now }
     ensures marks_after { marks.new ≡ marks_left built_in none log.now marks.old rows.old }
     ensures rows_after { rows.new ≡ rows_left built_in none log.now marks.old rows.old }
 {
-    let prices = built_in();
-    plan_by(Verdict::Passed, &prices, false, 0, log, marks, rows)
+    plan_by(Tariff::built_in(), None, log, marks, rows)
 }
 
 // The same by a price file.
-pub fn plan_with(prices: &[u8], log: &[u8], marks: &mut [u8], rows: &mut [u32]) -> Planned
+pub fn plan_with(
+    prices: &[u8],
+    log: &[u8],
+    marks: &mut [u8],
+    rows: &mut [u32],
+) -> Result<Planned, Refusal>
     ensures value { result ≡ planned (plan_verdict (price_file prices.now) none log.now (length marks.old) (length rows.old)) (price_file prices.now) none log.now }
     ensures marks_after { marks.new ≡ marks_left (price_file prices.now) none log.now marks.old rows.old }
     ensures rows_after { rows.new ≡ rows_left (price_file prices.now) none log.now marks.old rows.old }
 {
-    plan_by(file_fault(prices), prices, false, 0, log, marks, rows)
+    plan_by(Tariff::of_file(prices), None, log, marks, rows)
 }
 
 // The same by the built-in table, with an upload price.
-pub fn plan_uploads(upload: u32, log: &[u8], marks: &mut [u8], rows: &mut [u32]) -> Planned
+pub fn plan_uploads(
+    upload: u32,
+    log: &[u8],
+    marks: &mut [u8],
+    rows: &mut [u32],
+) -> Result<Planned, Refusal>
     ensures value { result ≡ planned (plan_verdict built_in (some upload) log.now (length marks.old) (length rows.old)) built_in (some upload) log.now }
     ensures marks_after { marks.new ≡ marks_left built_in (some upload) log.now marks.old rows.old }
     ensures rows_after { rows.new ≡ rows_left built_in (some upload) log.now marks.old rows.old }
 {
-    let prices = built_in();
-    plan_by(Verdict::Passed, &prices, true, upload, log, marks, rows)
+    plan_by(Tariff::built_in(), Some(upload), log, marks, rows)
 }
 
 // The same by a price file.
@@ -185,10 +177,10 @@ pub fn plan_uploads_with(
     log: &[u8],
     marks: &mut [u8],
     rows: &mut [u32],
-) -> Planned
+) -> Result<Planned, Refusal>
     ensures value { result ≡ planned (plan_verdict (price_file prices.now) (some upload) log.now (length marks.old) (length rows.old)) (price_file prices.now) (some upload) log.now }
     ensures marks_after { marks.new ≡ marks_left (price_file prices.now) (some upload) log.now marks.old rows.old }
     ensures rows_after { rows.new ≡ rows_left (price_file prices.now) (some upload) log.now marks.old rows.old }
 {
-    plan_by(file_fault(prices), prices, true, upload, log, marks, rows)
+    plan_by(Tariff::of_file(prices), Some(upload), log, marks, rows)
 }

@@ -1,5 +1,5 @@
 // The plan's marks, by a walk back through the table (model's Walk): K wherever K attains the least cost, else S wherever S does.
-ghost use Rattle.std.specs.Prelude.{◌++◌, ◌≡◌, suc, ◌^◌, ◌≤◌, ◌<◌, min, length, drop};
+ghost use Rattle.std.specs.Prelude.{◌++◌, ◌≡◌, suc, ◌^◌, ◌≤◌, ◌<◌, length, drop};
 ghost use Rattle.base.specs.Lists.{build};
 ghost use Rattle.model.specs.Plan.{plan};
 ghost use Rattle.model.specs.Table.{best};
@@ -15,7 +15,6 @@ ghost use Rattle.planner.specs.Walked.{turned, Keeps};
 use crate::requests::Fees;
 use crate::table::{Terms, shut, terms_at, unkept};
 use crate::{NONE, PLACES};
-use base::widths::{size_from_u16, u64_from_u32};
 
 // One step back: the letter of a request, and c and v for the requests before it.
 #[derive(Clone, Copy)]
@@ -26,43 +25,28 @@ struct Turn {
 }
 
 // A request is K, where the gaps above c are covered: d is its D, v the cost of the requests up to it.
+#[tactic(auto, unfolding(crate::specs::Terms::kept_by))]
 fn kept(fees: Fees, a: Terms, c: u16, d: u64, v: u64) -> bool
     ensures { result ≡ kept_by (rated fees) a c d v }
 {
-    if a.from == NONE {
-        return false;
-    }
     if a.from < c {
         return d == v;
     }
-    if a.free {
-        return a.span <= shut(fees, a);
-    }
-    true
+    a.from != NONE && (!a.free || a.span <= shut(fees, a))
 }
 
 // What S adds at request i + 1, where the gaps above c are covered.
+#[tactic(auto, unfolding(crate::specs::Terms::sent_by))]
 fn sent(fees: Fees, a: Terms, i: u16, c: u16) -> u64
     requires { a.gap < 2 ^ 60 }
     ensures { result ≡ sent_by (rated fees) a i c }
 {
-    let transfer = u64_from_u32(fees.transfer);
-    if i < c {
-        return transfer + a.gap;
-    }
-    transfer
-}
-
-fn lower(a: u16, b: u16) -> u16
-    ensures { result ≡ min a b }
-{
-    if a <= b {
-        return a;
-    }
-    b
+    let transfer = u64::from(fees.transfer);
+    if i < c { transfer + a.gap } else { transfer }
 }
 
 // The step back from request i + 1: d is its D, v the cost of the requests up to it where the gaps above c are covered.
+#[tactic(auto, using(crate::specs::TurnLaws::turned_kept, crate::specs::TurnLaws::span_most, crate::specs::TermLaws::terms_small))]
 fn step_back(
     fees: Fees,
     seconds: &[u32; PLACES],
@@ -79,19 +63,17 @@ fn step_back(
 {
     let a = terms_at(fees, seconds, servers, previous, i);
     if kept(fees, a, c, d, v) {
-        let rest = v - a.span;
         return Turn {
-            letter: 75,
-            c: lower(c, a.from),
-            v: rest,
+            letter: b'K',
+            c: c.min(a.from),
+            v: v - a.span,
         };
     }
     let left = unkept(fees.upload, a.sendable, sent(fees, a, i, c));
-    let rest = v - left.price;
     Turn {
         letter: left.letter,
-        c: lower(c, i),
-        v: rest,
+        c: c.min(i),
+        v: v - left.price,
     }
 }
 
@@ -111,17 +93,13 @@ pub(crate) fn write_marks(
     requires n_in_bounds { (n < length costs.now) × (n < length keeps.now) × (n ≤ length letters.old) }
     ensures { letters.new ≡ build n (λ i. letter (plan (rated fees) (asks seconds.now servers.now) n (suc i))) ++ drop n letters.old }
 {
-    let end = size_from_u16(n);
     let mut c = n;
-    let mut v = costs[end];
-    let mut i = n;
-    while 0 < i {
-        let before = i - 1;
-        let k = size_from_u16(before);
-        let t = step_back(fees, seconds, servers, previous, before, c, keeps[k + 1], v);
+    let mut v = costs[usize::from(n)];
+    for i in (0..n).rev() {
+        let k = usize::from(i);
+        let t = step_back(fees, seconds, servers, previous, i, c, keeps[k + 1], v);
         letters[k] = t.letter;
         c = t.c;
         v = t.v;
-        i = before;
     }
 }

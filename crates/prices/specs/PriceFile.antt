@@ -1,5 +1,6 @@
 -- The price file of 02's Req 05: its fields, its table, and the conditions 37 and 38. Assumes nothing.
 use Rattle.std.specs.Prelude.{not, List, [], ◌∷◌, ◌≡◌, ℕ, ◌+◌, ◌*◌, ◌≤◌, ◌<◌, ltb, eqb, length}
+use Rattle.base.specs.declared.reasons.Reason.TheVariants as reason
 use Rattle.base.specs.Choice.{either}
 use Rattle.base.specs.Refusals.{Condition, refuse, each}
 use Rattle.base.specs.Bytes.{le16, le32}
@@ -33,14 +34,14 @@ table_in file = build (class_count file) (pair_at file)
 -- 37 under 4 bytes, or a count that is not 1 to 256, an offset that is not 4, a length that is not the count's
 abbrev pub form_condition : List ℕ → Condition
 form_condition file =
-    refuse 37 0
+    refuse reason.PriceFile 0
     (either (ltb (length file) 4)
     (either (either (eqb (class_count file) 0) (ltb most_classes (class_count file)))
     (either (not (eqb (prices_offset file) 4)) (not (eqb (length file) (4 + 8 * class_count file))))))
 
 -- 38 a price out of range; its place is the class, from 0
 unfoldable pub pair_condition : List ℕ → ℕ → List Condition
-pair_condition file class = refuse 38 class (outside (pair_at file class)) ∷ []
+pair_condition file class = refuse reason.PriceRange class (outside (pair_at file class)) ∷ []
 
 -- all conditions on a price file: 37, then 38 class by class
 unfoldable pub file_conditions : List ℕ → List Condition

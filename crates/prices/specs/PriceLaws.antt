@@ -1,5 +1,5 @@
 -- Prices in range, 1 to 1,000,000: what the test tells, and that each class of the built-in table and of every price file that loads is. Assumes nothing.
-use Rattle.std.specs.Prelude.{false, not, List, ◌≢◌, ◌↔◌, ◌≡◌, refl, ℕ, suc, ◌≤◌, ◌<◌, ltb, eqb, length}
+use Rattle.std.specs.Prelude.{false, not, List, ◌≢◌, ◌↔◌, ◌≡◌, refl, ℕ, suc, ◌≤◌, ◌<◌, ltb, eqb, length, Ok}
 use Rattle.std.proofs.Common.{arith, ltb-false, le-ltb, ne_eqb}
 use Rattle.std.proofs.Math.ListN.{get_or-eq_default}
 use Rattle.std.proofs.lemmas.Bool.{eqb-false, not-true}
@@ -8,7 +8,6 @@ use Rattle.base.specs.ChoiceLaws.{either_false, neither_of}
 use Rattle.base.specs.Refusals.{each, Never}
 use Rattle.base.specs.RefusalLaws.{first_passed, each_passed}
 use Rattle.base.specs.NumberLaws.{Without, empty, other, of_each, first_never}
-use Rattle.base.specs.declared.Verdict.TheVariants.{Passed}
 use Rattle.base.specs.Lists.{build_length, build_at, every, every_at}
 use Rattle.prices.specs.declared.Prices.{Prices}
 use Rattle.prices.specs.Prices.{priced, classes, prices_of, outside, InRange}
@@ -52,7 +51,7 @@ Ranged table = (class : ℕ) → class < length table → InRange (prices_of tab
 
 -- every class of a tariff is, if its file is not refused
 abbrev pub Priced : Tariff → Type 0
-Priced t = t.judged ≡ Passed → Ranged t.table
+Priced t = t.judged ≡ Ok tt → Ranged t.table
 
 -- the built-in table
 pub classes_ranged : Ranged classes

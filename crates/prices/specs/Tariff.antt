@@ -1,9 +1,8 @@
 -- What a call takes its prices from: a price file where one is given, else the built-in table. Assumes nothing.
-use Rattle.std.specs.Prelude.{List, [], ℕ}
-use Rattle.base.specs.Refusals.{Condition, first}
-use Rattle.base.specs.declared.Verdict.{Verdict}
-use Rattle.base.specs.declared.Verdict.TheVariants.{Passed}
+use Rattle.std.specs.Prelude.{List, [], ℕ, Ok}
+use Rattle.base.specs.Refusals.{Condition, first, Verdict}
 use Rattle.prices.specs.declared.Prices.{Prices}
+use Rattle.prices.specs.declared.tariff.Tariff as handed
 use Rattle.prices.specs.Prices.{classes}
 use Rattle.prices.specs.PriceFile.{table_in, file_conditions}
 
@@ -15,9 +14,13 @@ pub record Tariff : Type 0 where
 abbrev pub tariff : Verdict → List Prices → Tariff
 tariff judged table = record { judged = judged; table = table }
 
+-- what a call is handed says
+abbrev pub tariff_of : handed.Tariff → Tariff
+tariff_of t = tariff t.judged (table_in t.file.now)
+
 -- none given: the built-in table
 abbrev pub built_in : Tariff
-built_in = tariff Passed classes
+built_in = tariff (Ok tt) classes
 
 -- the bytes of a price file
 abbrev pub price_file : List ℕ → Tariff

@@ -1,10 +1,10 @@
 -- An upload price passes exactly if it is taken.
-use Rattle.std.specs.Prelude.{false, [], ◌↔◌, ◌≡◌, refl, ℕ, ◌≤◌, ltb, eqb}
+use Rattle.std.specs.Prelude.{false, [], ◌↔◌, ◌≡◌, refl, ℕ, ◌≤◌, ltb, eqb, Ok}
+use Rattle.base.specs.declared.reasons.Reason.TheVariants as reason
 use Rattle.std.proofs.Math.Option.{Option, none, some}
 use Rattle.std.proofs.Common.{arith, ltb-false, le-ltb, ne_eqb}
 use Rattle.std.proofs.lemmas.Bool.{eqb-false}
 use Rattle.base.specs.ChoiceLaws.{either_false}
-use Rattle.base.specs.declared.Verdict.TheVariants.{Passed}
 use Rattle.base.specs.Refusals.{refuse, first}
 use Rattle.base.specs.RefusalLaws.{first_passed, first_failed}
 use Rattle.prices.specs.Prices.{price_outside}
@@ -18,10 +18,10 @@ in_range y e =
     (omega arith, ltb-false 1000000 y b)
 
 -- it passes exactly if it is taken
-pub taken_iff : (u : Option ℕ) → (first (upload_conditions u) ≡ Passed) ↔ Taken u
+pub taken_iff : (u : Option ℕ) → (first (upload_conditions u) ≡ Ok tt) ↔ Taken u
 unfolding upload_conditions first
 taken_iff none = (λ e. tt, λ t. refl)
 taken_iff (some y) = (
   λ e. in_range y ((first_passed (upload_conditions (some y))).0 e 0),
-  λ (a, b). first_failed (refuse 44 0 (price_outside y)) [] (rw (ne_eqb y 0 (omega arith)) (le-ltb 1000000 y b)),
+  λ (a, b). first_failed (refuse reason.UploadPrice 0 (price_outside y)) [] (rw (ne_eqb y 0 (omega arith)) (le-ltb 1000000 y b)),
 )

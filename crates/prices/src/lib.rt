@@ -2,6 +2,7 @@
 #![tactic(auto)]
 
 mod file;
+mod tariff;
 
 ghost use Rattle.std.specs.Prelude.{◌≡◌, ◌*◌};
 ghost use Rattle.base.specs.Refusals.{first};
@@ -9,14 +10,14 @@ ghost use Rattle.prices.specs.Prices.{price_outside, outside, window};
 ghost use Rattle.prices.specs.Offer.{built_in_offer};
 ghost use Rattle.prices.specs.Uploads.{upload_conditions, if_given};
 
-use base::Verdict;
-use base::refusals::or_else;
-use base::widths::u64_from_u32;
+use base::refusals::refuse_if;
+use base::{Reason, Verdict};
 pub use file::{BUILT_IN_LENGTH, built_in, class_count, file_fault, of_class};
+pub use tariff::Tariff;
 
 // What a class costs: the hold price of a copy and second (01: keep), and the transfer price (01: send). Its layout is C's.
 #[repr(C)]
-#[derive(Clone, Copy)]
+#[derive(Clone, Copy, Debug, PartialEq, Eq)]
 pub struct Prices {
     pub hold: u32,
     pub transfer: u32,
@@ -39,33 +40,30 @@ pub fn ended(class: u8) -> bool
 fn price_outside(price: u32) -> bool
     ensures { result ≡ price_outside price }
 {
-    if price == 0 {
-        return true;
-    }
-    1000000 < price
+    price == 0 || 1000000 < price
 }
 
 // One of the two is.
+#[tactic(auto, unfolding(crate::specs::Prices::outside))]
 pub fn outside(prices: Prices) -> bool
     ensures { result ≡ outside prices }
 {
-    if price_outside(prices.hold) {
-        return true;
-    }
-    price_outside(prices.transfer)
+    price_outside(prices.hold) || price_outside(prices.transfer)
 }
 
 // 44: an upload price is given and out of range.
-pub fn upload_fault(given: bool, upload: u32) -> Verdict
-    ensures { result ≡ first (upload_conditions (if_given given upload)) }
+#[tactic(auto, unfolding(crate::specs::Uploads::upload_conditions, crate::specs::Uploads::if_given, base::specs::Refusals::first))]
+pub fn upload_fault(upload: Option<u32>) -> Verdict
+    ensures { result ≡ first (upload_conditions (if_given upload)) }
 {
-    if given {
-        return or_else(Verdict::Passed, price_outside(upload), 44, 0);
+    match upload {
+        Some(price) => refuse_if(price_outside(price), Reason::UploadPrice, 0),
+        None => Ok(()),
     }
-    Verdict::Passed
 }
 
 // The window: the transfer price divided by the hold price, rounded down; 0 where holding is free.
+#[tactic(auto, unfolding(crate::specs::Prices::window))]
 pub fn window(prices: Prices) -> u32
     ensures { result ≡ window prices }
 {
@@ -79,5 +77,5 @@ pub fn window(prices: Prices) -> u32
 pub fn times(price: u32, n: u32) -> u64
     ensures { result ≡ price * n }
 {
-    u64_from_u32(price) * u64_from_u32(n)
+    u64::from(price) * u64::from(n)
 }

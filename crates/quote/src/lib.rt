@@ -4,12 +4,4 @@
 mod quoting;
 mod requests;
 
-use base::Refusal;
 pub use quoting::{quote, quote_with};
-
-// The quote, or why the log is refused.
-#[derive(Clone, Copy)]
-pub enum Quoted {
-    Cost(u64),
-    Refused(Refusal),
-}

@@ -9,7 +9,6 @@ ghost use Rattle.model.proofs.TableLists.{at};
 ghost use Rattle.quote.specs.Lasts.{own_since};
 
 use base::bytes::{at, at16};
-use base::widths::{size_from_u16, u16_from_u8, u64_from_u32};
 use prices::{Prices, times};
 use request_log::{Request, request_in, request_place};
 
@@ -17,18 +16,15 @@ use request_log::{Request, request_in, request_place};
 const NONE: u32 = 4294967295;
 
 // What a request costs by itself, by the last second at its server; one that comes after it stands for none.
+#[tactic(auto, unfolding(crate::specs::Lasts::own_since))]
 fn own_since(p: Prices, last: u32, second: u32) -> u64
     ensures { result ≡ own_since p last second }
 {
-    let transfer = u64_from_u32(p.transfer);
+    let transfer = u64::from(p.transfer);
     if second < last {
         return transfer;
     }
-    let span = times(p.hold, second - last);
-    if transfer < span {
-        return transfer;
-    }
-    span
+    transfer.min(times(p.hold, second - last))
 }
 
 // What a request adds; its second is the last at its server from then on.
@@ -37,7 +33,7 @@ fn add_request(p: Prices, request: Request, lasts: &mut [u32; 64]) -> u64
     ensures value { result ≡ own_since p (at lasts.old request.server) request.second }
     ensures lasts_after { lasts.new ≡ set lasts.old request.server request.second }
 {
-    let y = size_from_u16(request.server);
+    let y = usize::from(request.server);
     let last = lasts[y];
     lasts[y] = request.second;
     own_since(p, last, request.second)
@@ -49,14 +45,11 @@ pub(crate) fn sum_part(p: Prices, log: &[u8]) -> u64
     ensures { result ≡ sum_part p (requests_in log.now) (request_count log.now) }
 {
     let mut lasts = [NONE; 64];
-    lasts[size_from_u16(u16_from_u8(at(log, 4)))] = 0;
-    let n = at16(log, 6);
-    let mut sum: u64 = 0;
-    let mut k: u16 = 0;
-    while k < n {
+    lasts[usize::from(at(log, 4))] = 0;
+    let mut sum = 0;
+    for k in 0..at16(log, 6) {
         let i = request_place(k);
         sum += add_request(p, request_in(&log[i..i + 6]), &mut lasts);
-        k += 1;
     }
     sum
 }

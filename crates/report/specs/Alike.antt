@@ -1,9 +1,8 @@
 -- Lists that read alike at every place, 0 standing for what is past their ends: the sheet and the online cache cannot tell them apart.
-use Rattle.std.specs.Prelude.{List, [], ◌∷◌, ◌++◌, ◌≡◌, refl, ℕ, zero, suc, ◌-◌, length, get_or, replicate}
+use Rattle.std.specs.Prelude.{List, [], ◌∷◌, ◌++◌, ◌≡◌, refl, ℕ, zero, suc, ◌-◌, length, get_or, replicate, Ok}
 use Rattle.std.proofs.Math.Path.{ap}
 use Rattle.base.specs.Lent.{lent}
 use Rattle.base.specs.Lists.{build_same}
-use Rattle.base.specs.declared.Verdict.TheVariants.{Passed}
 use Rattle.online.specs.declared.Cache.{Cache}
 use Rattle.bounds.specs.Calls.{scan, run}
 use Rattle.report.specs.declared.Entry.{Entry}
@@ -26,7 +25,7 @@ padded_alike (x ∷ xs) k zero = refl
 padded_alike (x ∷ xs) k (suc i) = padded_alike xs k i
 
 -- what a call leaves in a list that it was lent reads as its answer
-pub lent_alike : (xs o o' : List ℕ) → o' ≡ lent Passed xs o → Alike o' xs
+pub lent_alike : (xs o o' : List ℕ) → o' ≡ lent (Ok tt) xs o → Alike o' xs
 unfolding lent
 lent_alike xs o o' e i = rw e (padded_alike xs (length o - length xs) i)
 

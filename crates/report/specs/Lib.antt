@@ -1,6 +1,7 @@
 -- Crate report: the sheet.
 -- What a reader believes: the definitions.
 pub mod Text
+pub mod Columns
 pub mod Sheet
 pub mod Output
 pub mod Sizes

@@ -2,8 +2,7 @@
 use Rattle.std.specs.Prelude.{List, [], ◌∷◌, ◌++◌, ℕ, length}
 use Rattle.std.proofs.Math.Option.{none}
 use Rattle.base.specs.Lent.{lent}
-use Rattle.base.specs.Refusals.{first, otherwise, short}
-use Rattle.base.specs.declared.Verdict.{Verdict}
+use Rattle.base.specs.Refusals.{first, otherwise, short, Verdict}
 use Rattle.prices.specs.Tariff.{Tariff}
 use Rattle.request_log.specs.Fields.{request_count, seconds_of, servers_of}
 use Rattle.request_log.specs.Conditions.{log_conditions}

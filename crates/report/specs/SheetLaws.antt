@@ -1,12 +1,10 @@
 -- The sheet of an accepted log: the online cache goes through its requests, and zeros after the answers of the calls that it is made of do not show.
-use Rattle.std.specs.Prelude.{List, [], ◌∷◌, ◌≡◌, ℕ, length}
+use Rattle.std.specs.Prelude.{List, [], ◌∷◌, ◌≡◌, ℕ, length, Err}
 use Rattle.std.proofs.Math.Option.{none}
 use Rattle.std.proofs.Common.{ap, ◌∙◌}
 use Rattle.base.specs.Lists.{build, build_same}
-use Rattle.base.specs.Refusals.{short, otherwise}
+use Rattle.base.specs.Refusals.{short, otherwise, Verdict}
 use Rattle.base.specs.declared.Refusal.{Refusal}
-use Rattle.base.specs.declared.Verdict.{Verdict}
-use Rattle.base.specs.declared.Verdict.TheVariants.{Refused}
 use Rattle.prices.specs.PriceLaws.{Priced}
 use Rattle.prices.specs.Tariff.{Tariff}
 use Rattle.request_log.specs.Fields.{id_of, request_count, seconds_of, servers_of}
@@ -29,7 +27,7 @@ unfolding sheet_verdict room_verdict
 verdict_parts t log room = after_log t log (short (length (sheet_of t log)) room ∷ [])
 
 -- a refused log is refused
-pub sheet_refused : (t : Tariff) (log : List ℕ) (room : ℕ) (r : Refusal) → verdict_of t log ≡ Refused r → sheet_verdict t log room ≡ Refused r
+pub sheet_refused : (t : Tariff) (log : List ℕ) (room : ℕ) (r : Refusal) → verdict_of t log ≡ Err r → sheet_verdict t log room ≡ Err r
 sheet_refused t log room r e = verdict_parts t log room ∙ ap (λ (v : Verdict). otherwise v (room_verdict (sheet_of t log) room)) e
 
 -- the sheet of an accepted log needs room

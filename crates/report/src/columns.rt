@@ -2,11 +2,10 @@
 ghost use Rattle.std.specs.Prelude.{◌≡◌, ◌++◌, ◌≤◌, length, drop};
 ghost use Rattle.base.specs.Lent.{lent};
 ghost use Rattle.base.specs.Lists.{build};
-ghost use Rattle.base.specs.declared.Verdict.TheVariants.{Passed};
 ghost use Rattle.live.specs.Live.{state_after, live_mark, live_cost};
 ghost use Rattle.live.specs.LiveLaws.{Runs};
 
-use base::bytes::{clear8, clear64};
+use base::bytes::clear;
 use live::step;
 use online::Cache;
 
@@ -26,13 +25,11 @@ fn replay(
     ensures costs_after { costs.new ≡ build n (live_cost cache id seconds.now servers.now) ++ drop n costs.old }
 {
     let mut state = cache;
-    let mut i: usize = 0;
-    while i < n {
+    for i in 0..n {
         let t = step(state, id, seconds[i], servers[i]);
         marks[i] = t.mark;
         costs[i] = t.cost;
         state = t.cache;
-        i += 1;
     }
     state
 }
@@ -49,11 +46,11 @@ pub(crate) fn give_live(
 ) -> Cache
     requires { Runs cache id seconds.now servers.now n × (n ≤ length seconds.now) × (n ≤ length servers.now) × (n ≤ length marks.old) × (n ≤ length costs.old) }
     ensures value { result ≡ state_after cache id seconds.now servers.now n }
-    ensures marks_after { marks.new ≡ lent Passed (build n (live_mark cache id seconds.now servers.now)) marks.old }
-    ensures costs_after { costs.new ≡ lent Passed (build n (live_cost cache id seconds.now servers.now)) costs.old }
+    ensures marks_after { marks.new ≡ lent (Ok tt) (build n (live_mark cache id seconds.now servers.now)) marks.old }
+    ensures costs_after { costs.new ≡ lent (Ok tt) (build n (live_cost cache id seconds.now servers.now)) costs.old }
 {
     let end = replay(cache, id, seconds, servers, n, marks, costs);
-    clear8(marks, n);
-    clear64(costs, n);
+    clear(marks, n);
+    clear(costs, n);
     end
 }

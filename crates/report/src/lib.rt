@@ -11,7 +11,7 @@ pub use sheets::{sheet, sheet_with};
 
 // What a request's line says: its number from 1, second, server, the letters of the plan's and of the online cache's mark, and the least
 // and the running cost of the requests so far.
-#[derive(Clone, Copy)]
+#[derive(Clone, Copy, Debug, PartialEq, Eq)]
 pub struct Entry {
     pub number: u64,
     pub second: u64,

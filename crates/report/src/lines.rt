@@ -1,15 +1,16 @@
 // The lines of the sheet.
-ghost use Rattle.std.specs.Prelude.{◌≡◌, ◌+◌, ◌*◌, ◌≤◌, ◌<◌, length, take};
+ghost use Rattle.std.specs.Prelude.{◌≡◌, ◌+◌, ◌*◌, ◌≤◌, length, take};
 ghost use Rattle.request_log.specs.Sizes.{most_requests};
 ghost use Rattle.text.specs.Page.{page, added};
 ghost use Rattle.report.specs.Sizes.{entry_room, sheet_room};
-ghost use Rattle.report.specs.Text.{heading, entry_line, entry_lines, sheet_text, columns, entry_of};
+ghost use Rattle.report.specs.Text.{heading, entry_line, entry_lines, sheet_text, entry_of};
+ghost use Rattle.report.specs.Columns.{Holds, columns_in};
 
 use crate::Entry;
-use base::widths::{u64_from_size, u64_from_u16, u64_from_u32};
 use text::put::{put, put_byte, put_field, put_letter, put_line, put_number};
 
 // The first line.
+#[tactic(auto, unfolding(crate::specs::Text::heading, text::specs::Lines::ascii))]
 pub fn put_heading(text: &mut [u8], at: usize) -> usize
     ensures { page result text.new ≡ added heading (page at text.old) }
 {
@@ -31,52 +32,45 @@ pub fn put_entry(text: &mut [u8], at: usize, entry: Entry) -> usize
     put_byte(text, g, b'\n')
 }
 
-// What the line of request i, from 0, says.
-fn entry_at(
-    seconds: &[u32],
-    servers: &[u16],
-    plan: &[u8],
-    live: &[u8],
-    least: &[u64],
-    costs: &[u64],
-    i: usize,
-) -> Entry
-    requires { (i < length seconds.now) × (i < length servers.now) × (i < length plan.now) × (i < length live.now) × (i + 1 < length least.now) × (i < length costs.now) }
-    ensures { result ≡ entry_of (columns seconds.now servers.now plan.now live.now least.now costs.now) i }
-{
-    Entry {
-        number: u64_from_size(i + 1),
-        second: u64_from_u32(seconds[i]),
-        server: u64_from_u16(servers[i]),
-        plan: plan[i],
-        live: live[i],
-        least: least[i + 1],
-        cost: costs[i],
+// What a sheet's lines say of the requests, one list for each column; the least costs begin with that of no requests.
+#[derive(Clone, Copy)]
+pub(crate) struct Columns<'a> {
+    pub seconds: &'a [u32],
+    pub servers: &'a [u16],
+    pub plan: &'a [u8],
+    pub live: &'a [u8],
+    pub least: &'a [u64],
+    pub costs: &'a [u64],
+}
+
+impl<'a> Columns<'a> {
+    // What the line of request i, from 0, says.
+    #[tactic(auto, unfolding(crate::specs::Text::entry_of))]
+    fn entry(self, i: usize) -> Entry
+        requires { Holds (columns_in self) (i + 1) }
+        ensures { result ≡ entry_of (columns_in self.entry) i }
+    {
+        Entry {
+            number: (i + 1) as u64,
+            second: u64::from(self.seconds[i]),
+            server: u64::from(self.servers[i]),
+            plan: self.plan[i],
+            live: self.live[i],
+            least: self.least[i + 1],
+            cost: self.costs[i],
+        }
     }
 }
 
 // The lines of the first n requests.
-pub(crate) fn put_entries(
-    text: &mut [u8],
-    at: usize,
-    seconds: &[u32],
-    servers: &[u16],
-    plan: &[u8],
-    live: &[u8],
-    least: &[u64],
-    costs: &[u64],
-    n: usize,
-) -> usize
-    requires { (n ≤ length seconds.now) × (n ≤ length servers.now) × (n ≤ length plan.now) × (n ≤ length live.now) × (n < length least.now) × (n ≤ length costs.now) }
-    ensures text_after { page result text.new ≡ added (entry_lines (entry_of (columns seconds.now servers.now plan.now live.now least.now costs.now)) n) (page at text.old) }
-    ensures n_len_bound { length (entry_lines (entry_of (columns seconds.now servers.now plan.now live.now least.now costs.now)) n) ≤ entry_room * n }
+pub(crate) fn put_entries(text: &mut [u8], at: usize, columns: Columns, n: usize) -> usize
+    requires { Holds (columns_in columns) n }
+    ensures text_after { page result text.new ≡ added (entry_lines (entry_of (columns_in columns.entry)) n) (page at text.old) }
+    ensures n_len_bound { length (entry_lines (entry_of (columns_in columns.entry)) n) ≤ entry_room * n }
 {
     let mut to = at;
-    let mut i: usize = 0;
-    while i < n {
-        let entry = entry_at(seconds, servers, plan, live, least, costs, i);
-        to = put_entry(text, to, entry);
-        i += 1;
+    for i in 0..n {
+        to = put_entry(text, to, columns.entry(i));
     }
     to
 }
@@ -84,21 +78,16 @@ pub(crate) fn put_entries(
 // The whole sheet of n requests, at the front of a text that has room for any.
 pub(crate) fn put_lines(
     text: &mut [u8],
-    seconds: &[u32],
-    servers: &[u16],
-    plan: &[u8],
-    live: &[u8],
-    least: &[u64],
-    costs: &[u64],
+    columns: Columns,
     n: usize,
     rows: u64,
     closing: u64,
 ) -> usize
-    requires { (n ≤ most_requests) × (most_requests ≤ length seconds.now) × (most_requests ≤ length servers.now) × (most_requests ≤ length plan.now) × (most_requests ≤ length live.now) × (most_requests < length least.now) × (most_requests ≤ length costs.now) × (sheet_room ≤ length text.old) }
-    ensures { (result ≤ length text.new) × (take result text.new ≡ sheet_text (entry_of (columns seconds.now servers.now plan.now live.now least.now costs.now)) n rows closing) }
+    requires { (n ≤ most_requests) × Holds (columns_in columns) most_requests × (sheet_room ≤ length text.old) }
+    ensures { (result ≤ length text.new) × (take result text.new ≡ sheet_text (entry_of (columns_in columns.entry)) n rows closing) }
 {
     let a = put_heading(text, 0);
-    let b = put_entries(text, a, seconds, servers, plan, live, least, costs, n);
+    let b = put_entries(text, a, columns, n);
     let c = put_line(text, b, b"rows", &[rows]);
     put_line(text, c, b"close", &[closing])
 }

@@ -2,7 +2,6 @@
 ghost use Rattle.std.proofs.Math.Option.{none};
 ghost use Rattle.std.specs.Prelude.{◌≡◌, ◌≤◌, length, take};
 ghost use Rattle.base.specs.Lent.{lent};
-ghost use Rattle.base.specs.declared.Verdict.TheVariants.{Passed};
 ghost use Rattle.prices.specs.Tariff.{built_in, price_file};
 ghost use Rattle.request_log.specs.Sizes.{most_requests};
 ghost use Rattle.request_log.specs.Fields.{header_of, request_count, seconds_of, servers_of};
@@ -18,13 +17,12 @@ ghost use Rattle.report.specs.Alike.{Alike};
 
 use crate::SHEET_ROOM;
 use crate::columns::give_live;
-use crate::lines::put_lines;
-use base::widths::{size_from_u16, u64_from_u32};
+use crate::lines::{Columns, put_lines};
+use base::Refusal;
 use live::{closing, open};
 use planner::{PLACES, Planned, ROWS_ROOM, least_with, plan_with};
 use prices::built_in;
-use request_log::{Decoded, Header, MOST_REQUESTS, ReadOutcome, read_with};
-use text::Printed;
+use request_log::{Decoded, Header, MOST_REQUESTS, read_with};
 use text::give::give;
 
 // Room for any sheet.
@@ -35,16 +33,18 @@ fn room() -> [u8; SHEET_ROOM]
 }
 
 // The number of a plan's rows.
-fn row_count(planned: Planned) -> u64
+#[tactic(auto, unfolding(crate::specs::Replies::rows_planned))]
+fn row_count(planned: Result<Planned, Refusal>) -> u64
     ensures { result ≡ rows_planned planned }
 {
     match planned {
-        Planned::Plan { cost: _, rows } => u64_from_u32(rows),
-        Planned::Refused(_) => 0,
+        Ok(plan) => u64::from(plan.rows),
+        Err(_) => 0,
     }
 }
 
 // Read a log, into lists that have room for any.
+#[tactic(auto, using(request_log::specs::AnswerLaws::read_long))]
 fn read_requests(prices: &[u8], log: &[u8], seconds: &mut [u32], servers: &mut [u16]) -> Decoded
     requires { (length seconds.old ≡ most_requests) × (length servers.old ≡ most_requests) }
     ensures value { result ≡ decoded (verdict_of (price_file prices.now) log.now) log.now }
@@ -58,19 +58,18 @@ fn read_requests(prices: &[u8], log: &[u8], seconds: &mut [u32], servers: &mut [
 fn plan_marks(prices: &[u8], log: &[u8], marks: &mut [u8]) -> u64
     requires { Accepted (price_file prices.now) log.now × (length marks.old ≡ most_requests) }
     ensures value { result ≡ length (planned_rows (price_file prices.now) none log.now) }
-    ensures marks_after { marks.new ≡ lent Passed (marks_of (price_file prices.now) none log.now) marks.old }
+    ensures marks_after { marks.new ≡ lent (Ok tt) (marks_of (price_file prices.now) none log.now) marks.old }
 {
     let mut rows = [0u32; ROWS_ROOM];
-    let planned = plan_with(prices, log, marks, &mut rows);
-    row_count(planned)
+    row_count(plan_with(prices, log, marks, &mut rows))
 }
 
 // The least costs of its first requests.
 fn find_least(prices: &[u8], log: &[u8], costs: &mut [u64])
     requires { Accepted (price_file prices.now) log.now × (length costs.old ≡ places) }
-    ensures { costs.new ≡ lent Passed (least_costs (price_file prices.now) none log.now) costs.old }
+    ensures { costs.new ≡ lent (Ok tt) (least_costs (price_file prices.now) none log.now) costs.old }
 {
-    least_with(prices, log, costs);
+    let _ = least_with(prices, log, costs);
 }
 
 // The sheet of an accepted log, of what was read of it, at the front of a text that has room for any.
@@ -95,10 +94,9 @@ fn put_sheet(
     let rows = plan_marks(prices, log, &mut marks);
     find_least(prices, log, &mut costs);
     let cache = open(prices, header);
-    let id = header.id;
     let end = give_live(
         cache,
-        id,
+        header.id,
         seconds,
         servers,
         n,
@@ -106,53 +104,45 @@ fn put_sheet(
         &mut live_costs,
     );
     let close = closing(end);
-    put_lines(
-        text,
+    let columns = Columns {
         seconds,
         servers,
-        &marks,
-        &live_marks,
-        &costs,
-        &live_costs,
-        n,
-        rows,
-        close,
-    )
+        plan: &marks,
+        live: &live_marks,
+        least: &costs,
+        costs: &live_costs,
+    };
+    put_lines(text, columns, n, rows, close)
 }
 
 // The sheet of a log by a price file, and zeros after it; refused with 37, 38, 1 to 13 or 31, the text as it was.
-pub fn sheet_with(prices: &[u8], log: &[u8], text: &mut [u8]) -> Printed
+pub fn sheet_with(prices: &[u8], log: &[u8], text: &mut [u8]) -> Result<u64, Refusal>
     ensures value { result ≡ printed (sheet_verdict (price_file prices.now) log.now (length text.old)) (sheet_of (price_file prices.now) log.now) }
     ensures text_after { text.new ≡ text_left (price_file prices.now) log.now text.old }
 {
     let mut seconds = [0u32; MOST_REQUESTS];
     let mut servers = [0u16; MOST_REQUESTS];
     let decoded = read_requests(prices, log, &mut seconds, &mut servers);
-    let outcome = decoded.outcome;
     let header = decoded.header;
-    match outcome {
-        ReadOutcome::Refused(r) => Printed::Refused(r),
-        ReadOutcome::Requests(n) => {
-            let mut page = room();
-            let end = put_sheet(
-                prices,
-                log,
-                header,
-                size_from_u16(n),
-                &seconds,
-                &servers,
-                &mut page,
-            );
-            give(&page[..end], text)
-        }
-    }
+    let n = decoded.outcome?;
+    let mut page = room();
+    let end = put_sheet(
+        prices,
+        log,
+        header,
+        usize::from(n),
+        &seconds,
+        &servers,
+        &mut page,
+    );
+    give(&page[..end], text)
 }
 
 // The same by the built-in table: refused with 1 to 13 or 31.
-pub fn sheet(log: &[u8], text: &mut [u8]) -> Printed
+#[tactic(auto, using(prices::specs::FileLaws::built_in_file))]
+pub fn sheet(log: &[u8], text: &mut [u8]) -> Result<u64, Refusal>
     ensures value { result ≡ printed (sheet_verdict built_in log.now (length text.old)) (sheet_of built_in log.now) }
     ensures text_after { text.new ≡ text_left built_in log.now text.old }
 {
-    let prices = built_in();
-    sheet_with(&prices, log, text)
+    sheet_with(&built_in(), log, text)
 }

@@ -1,15 +1,15 @@
 -- What is not refused is in range, and the other way round. Assumes nothing.
-use Rattle.std.specs.Prelude.{false, not, List, [], ◌∷◌, ◌++◌, ◌≢◌, ◌↔◌, ◌≡◌, refl, ℕ, zero, suc, ◌+◌, ◌*◌, ◌≤◌, ◌<◌, leb, ltb, eqb, get_or, length}
+use Rattle.std.specs.Prelude.{false, not, List, [], ◌∷◌, ◌++◌, ◌≢◌, ◌↔◌, ◌≡◌, refl, ℕ, zero, suc, ◌+◌, ◌*◌, ◌≤◌, ◌<◌, leb, ltb, eqb, get_or, length, take, drop, Ok}
 use Rattle.std.proofs.Common.{sym, ◌∙◌, arith}
 use borrow.Author.Tests.{ltb-false, leb-false, eqb-false, eqb-true, not-false, le-ltb, lt-leb, eq-eqb, ne_eqb}
 use Rattle.base.specs.Choice.{either}
 use Rattle.base.specs.ChoiceLaws.{either_false, neither_of}
-use Rattle.base.specs.Refusals.{Condition, first, from, each}
+use Rattle.base.specs.Refusals.{Condition, first, from, each, Verdict}
 use Rattle.base.specs.RefusalLaws.{first_failed, from_otherwise, otherwise_passed, append_passed, each_passed, first_passed}
-use Rattle.base.specs.declared.Verdict.{Verdict}
-use Rattle.base.specs.declared.Verdict.TheVariants.{Passed}
 use Rattle.base.specs.Bytes.{le16, le32}
-use Rattle.base.specs.Lists.{build_length, build_at}
+use Rattle.base.specs.Lists.{build_length, build_at, build_same, build_read}
+use Rattle.std.proofs.Math.ListN.{length-drop}
+use Rattle.std.proofs.Math.Seq.{get_or-drop}
 use Rattle.prices.specs.declared.Prices.{Prices}
 use Rattle.prices.specs.Tariff.{Tariff}
 use Rattle.prices.specs.Offer.{Offer, Sold}
@@ -40,11 +40,11 @@ false_range x m l h = neither_of (ne_eqb x 0 (omega arith)) (le-ltb m x h)
 -- ---- lists of conditions that pass
 
 -- no condition, and one more
-passed_nil : first [] ≡ Passed
+passed_nil : first [] ≡ Ok tt
 unfolding first
 passed_nil = refl
 
-passed_cons : (c : Condition) (cs : List Condition) → c.holds ≡ false → first cs ≡ Passed → first (c ∷ cs) ≡ Passed
+passed_cons : (c : Condition) (cs : List Condition) → c.holds ≡ false → first cs ≡ Ok tt → first (c ∷ cs) ≡ Ok tt
 passed_cons c cs h e = first_failed c cs h ∙ e
 
 -- ---- the conditions on a setup and on a request, both ways
@@ -54,20 +54,20 @@ allowed : (s : Setup) → either (eqb s.server_count 0) (ltb 64 s.server_count) 
     → leb s.server_count s.home ≡ false → Allowed s
 allowed s q r = let range = range_false s.server_count 64 q in omega (arith, ltb-false, leb-false)
 
-passed_servers : (s : Setup) (cs : List Condition) → Allowed s → first cs ≡ Passed → first (servers_conditions s ++ cs) ≡ Passed
+passed_servers : (s : Setup) (cs : List Condition) → Allowed s → first cs ≡ Ok tt → first (servers_conditions s ++ cs) ≡ Ok tt
 passed_servers s cs f e =
     passed_cons _ _ (false_range _ _ f.servers_least f.servers_most) (passed_cons _ _ (lt-leb _ _ f.home_below) e)
 
-passed_setup : (table : List Prices) (s : Setup) (cs : List Condition) → s.«class» < length table → Allowed s → first cs ≡ Passed → first (setup_conditions table s ++ cs) ≡ Passed
+passed_setup : (table : List Prices) (s : Setup) (cs : List Condition) → s.«class» < length table → Allowed s → first cs ≡ Ok tt → first (setup_conditions table s ++ cs) ≡ Ok tt
 unfolding setup_conditions
 passed_setup table s cs l f e = passed_cons _ _ (lt-leb _ _ l) (passed_servers s cs f e)
 
-passed_offered : (o : Offer) (s : Setup) (cs : List Condition) → Sold o s.«class» → Allowed s → first cs ≡ Passed → first (offered_conditions o s ++ cs) ≡ Passed
+passed_offered : (o : Offer) (s : Setup) (cs : List Condition) → Sold o s.«class» → Allowed s → first cs ≡ Ok tt → first (offered_conditions o s ++ cs) ≡ Ok tt
 unfolding offered_conditions
 passed_offered o s cs l f e = passed_cons _ _ (lt-leb _ _ l.listed) (passed_cons _ _ l.unended (passed_servers s cs f e))
 
 -- no condition on a setup holds exactly if its class is one of the table and the rest is allowed
-pub setup_allowed : (table : List Prices) (s : Setup) → (first (setup_conditions table s) ≡ Passed) ↔ ((s.«class» < length table) × Allowed s)
+pub setup_allowed : (table : List Prices) (s : Setup) → (first (setup_conditions table s) ≡ Ok tt) ↔ ((s.«class» < length table) × Allowed s)
 unfolding setup_conditions
 setup_allowed table s = (
   λ e. let f = (first_passed (setup_conditions table s)).0 e in (leb-false _ _ (f 0), allowed s (f 1) (f 2)),
@@ -75,7 +75,7 @@ setup_allowed table s = (
 )
 
 -- nor on one that is offered, if its class is sold too
-pub offered_allowed : (o : Offer) (s : Setup) → (first (offered_conditions o s) ≡ Passed) ↔ (Sold o s.«class» × Allowed s)
+pub offered_allowed : (o : Offer) (s : Setup) → (first (offered_conditions o s) ≡ Ok tt) ↔ (Sold o s.«class» × Allowed s)
 unfolding offered_conditions
 offered_allowed o s = (
   λ e. let f = (first_passed (offered_conditions o s)).0 e in (record { listed = leb-false _ _ (f 0); unended = f 1 }, allowed s (f 2) (f 3)),
@@ -84,7 +84,7 @@ offered_allowed o s = (
 
 -- the first m requests
 module _ (n : ℕ) (seconds servers : List ℕ) (m : ℕ) where
-  in_order_of : first (each (request_conditions n seconds servers) m) ≡ Passed
+  in_order_of : first (each (request_conditions n seconds servers) m) ≡ Ok tt
       → (i : ℕ) → i < m → InOrder n seconds servers i
   unfolding request_conditions
   in_order_of e i l =
@@ -93,7 +93,7 @@ module _ (n : ℕ) (seconds servers : List ℕ) (m : ℕ) where
       omega (arith, leb-false n (get_or servers i 0) (f 0), leb-false (get_or seconds i 0) (before seconds i) (f 2))
 
   passed_in_order : ((i : ℕ) → i < m → InOrder n seconds servers i)
-      → first (each (request_conditions n seconds servers) m) ≡ Passed
+      → first (each (request_conditions n seconds servers) m) ≡ Ok tt
   unfolding request_conditions
   passed_in_order o = (each_passed (request_conditions n seconds servers) m).1 λ i l.
       let f = o i l in
@@ -104,7 +104,7 @@ module _ (n : ℕ) (seconds servers : List ℕ) (m : ℕ) where
 -- ---- the log
 
 -- where none of 1 to 9 holds the log is as long as its requests need
-pub form_length : (v : Verdict) (table : List Prices) (s : List ℕ) → from v (form_conditions table s) ≡ Passed → length s ≡ length_for (request_count s)
+pub form_length : (v : Verdict) (table : List Prices) (s : List ℕ) → from v (form_conditions table s) ≡ Ok tt → length s ≡ length_for (request_count s)
 unfolding setup_conditions
 form_length v table s a =
     let f = (first_passed (form_conditions table s)).0 (otherwise_passed v _ (sym (from_otherwise v (form_conditions table s)) ∙ a)).1 in
@@ -113,7 +113,7 @@ form_length v table s a =
     differ_false _ _ (f 8) ∙ differ_false _ _ at_total
 
 -- the price file of an accepted log is not refused
-pub accepted_judged : (t : Tariff) (s : List ℕ) → Accepted t s → t.judged ≡ Passed
+pub accepted_judged : (t : Tariff) (s : List ℕ) → Accepted t s → t.judged ≡ Ok tt
 unfolding Accepted verdict_of
 accepted_judged t s a = (otherwise_passed t.judged _ a).0
 
@@ -148,7 +148,7 @@ accepted_sound t s a =
     }
 
 -- a sound log is accepted, if its price file is not refused and has its class
-pub sound_accepted : (t : Tariff) (s : List ℕ) → t.judged ≡ Passed → class_of s < length t.table → Sound s → Accepted t s
+pub sound_accepted : (t : Tariff) (s : List ℕ) → t.judged ≡ Ok tt → class_of s < length t.table → Sound s → Accepted t s
 unfolding Accepted verdict_of log_conditions header_conditions setup_conditions length_for
 sound_accepted t s j l f = rw j (
     (append_passed (header_conditions t.table s) _).1 (
@@ -213,6 +213,13 @@ server_at s i l = build_at (request_count s) _ i 0 l
 pub id_length : (s : List ℕ) → length (id_of s) ≡ 16
 unfolding id_of
 id_length s = build_length 16 _
+
+-- they are cut out of a log that has them
+pub id_taken : (s : List ℕ) → 40 ≤ length s → id_of s ≡ take 16 (drop 24 s)
+unfolding id_of
+id_taken s h =
+    build_same 16 _ _ (λ i l. sym (get_or-drop 24 s i 0))
+    ∙ build_read 16 (drop 24 s) 0 (rw length-drop (omega arith))
 
 -- the second before request i, where 0 stands before the seconds
 pub before_is : (seconds : List ℕ) (i : ℕ) → before seconds i ≡ get_or (0 ∷ seconds) i 0

@@ -1,17 +1,13 @@
 -- What the reader and the writer answer, and what their lent lists hold at the end. Assumes nothing.
-use Rattle.std.specs.Prelude.{List, [], ◌∷◌, ◌++◌, ℕ, ltb, length, replicate}
+use Rattle.std.specs.Prelude.{List, [], ◌∷◌, ◌++◌, ℕ, ltb, length, replicate, Ok, Err, Result}
+use Rattle.base.specs.declared.Refusal.{Refusal}
 use Rattle.base.specs.Choice.{pick}
-use Rattle.base.specs.Refusals.{first, otherwise, short}
+use Rattle.base.specs.Refusals.{first, otherwise, short, Verdict}
 use Rattle.base.specs.Lent.{lent}
-use Rattle.base.specs.declared.Verdict.{Verdict}
-use Rattle.base.specs.declared.Verdict.TheVariants.{Passed, Refused}
 use Rattle.prices.specs.Tariff.{Tariff}
 use Rattle.prices.specs.Offer.{Offer}
 use Rattle.request_log.specs.declared.Header.{Header}
-use Rattle.request_log.specs.declared.ReadOutcome.TheVariants as read
 use Rattle.request_log.specs.declared.Decoded.{Decoded}
-use Rattle.request_log.specs.declared.Written.{Written}
-use Rattle.request_log.specs.declared.Written.TheVariants as write
 use Rattle.request_log.specs.Fields.{header_of, request_count, length_for, seconds_of, servers_of}
 use Rattle.request_log.specs.Conditions.{log_conditions}
 use Rattle.request_log.specs.Contents.{Contents, contents_conditions, encode}
@@ -31,8 +27,8 @@ header_in s = pick (ltb (length s) 40) no_header (header_of s)
 
 -- the reader's answer by its verdict: header and request count, or the refusal
 unfoldable pub decoded : Verdict → List ℕ → Decoded
-decoded Passed s = record { header = header_of s; outcome = read.Requests (request_count s) }
-decoded (Refused r) s = record { header = no_header; outcome = read.Refused r }
+decoded (Ok _) s = record { header = header_of s; outcome = Ok (request_count s) }
+decoded (Err r) s = record { header = no_header; outcome = Err r }
 
 -- what the lent lists hold at the end
 abbrev pub seconds_left : Tariff → List ℕ → List ℕ → List ℕ → List ℕ
@@ -46,9 +42,9 @@ unfoldable pub write_verdict : Offer → Contents → ℕ → Verdict
 write_verdict o c log = otherwise o.tariff.judged (first (contents_conditions o c ++ (short (length_for (length c.seconds)) log ∷ [])))
 
 -- the writer's answer by its verdict: the log's length, or the refusal
-unfoldable pub written : Verdict → Contents → Written
-written Passed c = write.Length (length_for (length c.seconds))
-written (Refused r) c = write.Refused r
+unfoldable pub written : Verdict → Contents → Result ℕ Refusal
+written (Ok _) c = Ok (length_for (length c.seconds))
+written (Err r) c = Err r
 
 -- what the lent log holds at the end
 abbrev pub log_left : Offer → Contents → List ℕ → List ℕ

@@ -1,25 +1,25 @@
 -- The conditions on each request, and a log's verdict part by part, as the code comes by them; conditions after a log's.
-use Rattle.std.specs.Prelude.{false, not, List, [], ◌∷◌, ◌++◌, ◌≡◌, refl, ℕ, suc, ◌+◌, ◌*◌, ◌<◌, eqb, get_or, length}
+use Rattle.std.specs.Prelude.{false, not, List, [], ◌∷◌, ◌++◌, ◌≡◌, refl, ℕ, suc, ◌+◌, ◌*◌, ◌<◌, eqb, get_or, length, Ok, Err}
+use Rattle.base.specs.declared.reasons.Reason.TheVariants as reason
 use Rattle.std.proofs.Common.{ap, sym, ◌∙◌}
-use Rattle.base.specs.Refusals.{Condition, refuse, first, or_else, from, each, otherwise}
+use Rattle.base.specs.Refusals.{Condition, refuse, first, or_else, from, each, otherwise, Verdict}
 use Rattle.base.specs.RefusalLaws.{each_suc, first_append, from_append, from_otherwise, otherwise_assoc}
-use Rattle.base.specs.declared.Verdict.{Verdict}
-use Rattle.base.specs.declared.Verdict.TheVariants.{Passed, Refused}
 use Rattle.base.specs.Bytes.{le16, le32}
 use Rattle.base.specs.Lists.{build_at}
 use Rattle.prices.specs.declared.Prices.{Prices}
 use Rattle.prices.specs.Tariff.{Tariff, tariff}
 use Rattle.prices.specs.Offer.{Offer}
 use Rattle.checksum.specs.Sum.{sum_of}
+use Rattle.base.specs.declared.reasons.Reason.{Reason}
 use Rattle.request_log.specs.declared.Setup.{Setup}
 use Rattle.request_log.specs.Fields.{server_count_of, request_count, seconds_of, servers_of, total_length, written_sum}
 use Rattle.request_log.specs.Conditions.{setup_conditions, offered_conditions, head_conditions, form_conditions, header_conditions, before, request_check, request_conditions, log_conditions, head_verdict, verdict_of, Accepted}
 
 -- a test that fails adds nothing
-or_else_false : (v : Verdict) (number place : ℕ) → or_else v (refuse number place false) ≡ v
+or_else_false : (v : Verdict) (r : Reason) (place : ℕ) → or_else v (refuse r place false) ≡ v
 unfolding or_else first
-or_else_false Passed number place = refl
-or_else_false (Refused r) number place = refl
+or_else_false (Ok _) r place = refl
+or_else_false (Err q) r place = refl
 
 -- where the class has not ended, 3 to 5 are left
 pub offered_setup : (v : Verdict) (o : Offer) (s : Setup) → o.ended s.«class» ≡ false
@@ -43,7 +43,7 @@ unfolding request_conditions seconds_of servers_of
 log_request s i h = rw (build_at (request_count s) (λ i. le32 s (40 + 6 * i)) i 0 h, build_at (request_count s) (λ i. le16 s (44 + 6 * i)) i 0 h)
 
 -- one more that passes
-pub each_more : (f : ℕ → List Condition) (i : ℕ) → first (each f i) ≡ Passed → first (f i) ≡ Passed → first (each f (suc i)) ≡ Passed
+pub each_more : (f : ℕ → List Condition) (i : ℕ) → first (each f i) ≡ Ok tt → first (f i) ≡ Ok tt → first (each f (suc i)) ≡ Ok tt
 each_more f i p q = each_suc f i ∙ rw (p, q)
 
 -- what a check of request i finds, from the values that it was handed
@@ -69,20 +69,20 @@ head_parts v table s = from_otherwise v (head_conditions table s)
 
 -- 1 to 9: the header's verdict, then 9
 pub form_parts : (v : Verdict) (table : List Prices) (s : List ℕ)
-    → from v (form_conditions table s) ≡ or_else (head_verdict (tariff v table) s) (refuse 9 0 (not (eqb (length s) (total_length s))))
+    → from v (form_conditions table s) ≡ or_else (head_verdict (tariff v table) s) (refuse reason.Length 0 (not (eqb (length s) (total_length s))))
 form_parts v table s =
-    let nine = refuse 9 0 (not (eqb (length s) (total_length s))) in
+    let nine = refuse reason.Length 0 (not (eqb (length s) (total_length s))) in
     from_append v (head_conditions table s) (nine ∷ []) ∙ one_more (from v (head_conditions table s)) nine
     ∙ ap (λ (w : Verdict). or_else w nine) (head_parts v table s)
 
 -- the verdict part by part: 1 to 9, 10, then the requests
 pub verdict_parts : (v : Verdict) (table : List Prices) (s : List ℕ)
     → verdict_of (tariff v table) s
-    ≡ otherwise (otherwise (from v (form_conditions table s)) (first (refuse 10 0 (not (eqb (written_sum s) (sum_of s))) ∷ []))) (first (each (log_requests s) (request_count s)))
+    ≡ otherwise (otherwise (from v (form_conditions table s)) (first (refuse reason.Sum 0 (not (eqb (written_sum s) (sum_of s))) ∷ []))) (first (each (log_requests s) (request_count s)))
 unfolding verdict_of log_conditions header_conditions
 verdict_parts judged table s =
     let form = form_conditions table s in
-    let sum = refuse 10 0 (not (eqb (written_sum s) (sum_of s))) ∷ [] in
+    let sum = refuse reason.Sum 0 (not (eqb (written_sum s) (sum_of s))) ∷ [] in
     let requests = first (each (log_requests s) (request_count s)) in
     ap (otherwise judged) (first_append (header_conditions table s) (each (log_requests s) (request_count s)) ∙ ap (λ (v : Verdict). otherwise v requests) (first_append form sum))
     ∙ otherwise_assoc judged (otherwise (first form) (first sum)) requests

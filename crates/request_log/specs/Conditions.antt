@@ -1,10 +1,9 @@
 -- The conditions 1 to 13 of 01's 'Refused because of the input', in its order, and 02's 43 after 3. Assumes nothing.
-use Rattle.std.specs.Prelude.{not, List, [], ◌∷◌, ◌++◌, ◌≡◌, ℕ, zero, suc, leb, ltb, eqb, get_or, length}
+use Rattle.std.specs.Prelude.{not, List, [], ◌∷◌, ◌++◌, ◌≡◌, ℕ, zero, suc, leb, ltb, eqb, get_or, length, Ok}
+use Rattle.base.specs.declared.reasons.Reason.TheVariants as reason
 use Rattle.base.specs.Choice.{either}
-use Rattle.base.specs.Refusals.{Condition, refuse, first, otherwise, each}
+use Rattle.base.specs.Refusals.{Condition, refuse, first, otherwise, each, Verdict}
 use Rattle.base.specs.declared.Refusal.{Refusal}
-use Rattle.base.specs.declared.Verdict.{Verdict}
-use Rattle.base.specs.declared.Verdict.TheVariants.{Passed}
 use Rattle.base.specs.Bytes.{byte}
 use Rattle.prices.specs.declared.Prices.{Prices}
 use Rattle.prices.specs.Tariff.{Tariff}
@@ -16,13 +15,13 @@ use Rattle.request_log.specs.Fields.{version, server_count_of, setup_of, request
 
 -- 3 asks for a class of the table
 abbrev pub class_condition : List Prices → Setup → Condition
-class_condition table s = refuse 3 0 (leb (length table) s.«class»)
+class_condition table s = refuse reason.UnknownClass 0 (leb (length table) s.«class»)
 
 -- 4 asks for 1 to 64 servers, 5 for a home among them
 abbrev pub servers_conditions : Setup → List Condition
 servers_conditions s =
-    refuse 4 0 (either (eqb s.server_count 0) (ltb 64 s.server_count))
-    ∷ refuse 5 0 (leb s.server_count s.home)
+    refuse reason.ServerCount 0 (either (eqb s.server_count 0) (ltb 64 s.server_count))
+    ∷ refuse reason.Home 0 (leb s.server_count s.home)
     ∷ []
 
 -- of a log that there is: 3 to 5
@@ -31,33 +30,33 @@ setup_conditions table s = class_condition table s ∷ servers_conditions s
 
 -- 43, whose place is 0
 abbrev pub no_longer_sold : Refusal
-no_longer_sold = record { number = 43; place = 0 }
+no_longer_sold = record { reason = reason.EndedClass; place = 0 }
 
 -- of what is to be written or started: 43, a class that is no longer sold, right after 3
 unfoldable pub offered_conditions : Offer → Setup → List Condition
-offered_conditions o s = class_condition o.tariff.table s ∷ refuse 43 0 (o.ended s.«class») ∷ servers_conditions s
+offered_conditions o s = class_condition o.tariff.table s ∷ refuse reason.EndedClass 0 (o.ended s.«class») ∷ servers_conditions s
 
 -- 1 under 40 bytes; 2 version not 1; 3 to 5; 6 byte 5 not zero; 7 request count above 2,048; 8 an offset or the total not as the
 -- format says
 abbrev pub head_conditions : List Prices → List ℕ → List Condition
 head_conditions table s =
-    refuse 1 0 (ltb (length s) 40)
-    ∷ refuse 2 0 (not (eqb (version s) 1))
+    refuse reason.ShortLog 0 (ltb (length s) 40)
+    ∷ refuse reason.Version 0 (not (eqb (version s) 1))
     ∷ (setup_conditions table (setup_of s)
-    ++ (refuse 6 0 (not (eqb (byte s 5) 0))
-    ∷ refuse 7 0 (ltb most_requests (request_count s))
-    ∷ refuse 8 0
+    ++ (refuse reason.SpareByte 0 (not (eqb (byte s 5) 0))
+    ∷ refuse reason.RequestCount 0 (ltb most_requests (request_count s))
+    ∷ refuse reason.Layout 0
     (either (not (eqb (requests_offset s) 40))
     (either (not (eqb (id_offset s) 24)) (not (eqb (total_length s) (length_for (request_count s))))))
     ∷ []))
 
 -- 1 to 8, then 9 file length not the total
 abbrev pub form_conditions : List Prices → List ℕ → List Condition
-form_conditions table s = head_conditions table s ++ (refuse 9 0 (not (eqb (length s) (total_length s))) ∷ [])
+form_conditions table s = head_conditions table s ++ (refuse reason.Length 0 (not (eqb (length s) (total_length s))) ∷ [])
 
 -- 1 to 9, then 10 the sum
 unfoldable pub header_conditions : List Prices → List ℕ → List Condition
-header_conditions table s = form_conditions table s ++ (refuse 10 0 (not (eqb (written_sum s) (sum_of s))) ∷ [])
+header_conditions table s = form_conditions table s ++ (refuse reason.Sum 0 (not (eqb (written_sum s) (sum_of s))) ∷ [])
 
 -- the second before request i, from 0; 0 before the first
 unfoldable pub before : List ℕ → ℕ → ℕ
@@ -67,9 +66,9 @@ before seconds (suc i) = get_or seconds i 0
 -- 11 asks for a server that there is, 12 for a second from 1 to 4,000,000, 13 for a later one than the request before
 abbrev pub request_check : ℕ → ℕ → ℕ → ℕ → ℕ → List Condition
 request_check count server second earlier place =
-    refuse 11 place (leb count server)
-    ∷ refuse 12 place (either (eqb second 0) (ltb 4000000 second))
-    ∷ refuse 13 place (leb second earlier)
+    refuse reason.UnknownServer place (leb count server)
+    ∷ refuse reason.SecondRange place (either (eqb second 0) (ltb 4000000 second))
+    ∷ refuse reason.NotLater place (leb second earlier)
     ∷ []
 
 -- the conditions on request i from 0, whose place is counted from 1
@@ -93,4 +92,4 @@ verdict_of t s = otherwise t.judged (first (log_conditions t.table s))
 
 -- an accepted log: no condition holds
 unfoldable pub Accepted : Tariff → List ℕ → Type 0
-Accepted t s = verdict_of t s ≡ Passed
+Accepted t s = verdict_of t s ≡ Ok tt

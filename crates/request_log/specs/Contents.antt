@@ -1,5 +1,6 @@
 -- What a log says, read from its bytes and written to them. Assumes nothing.
 use Rattle.std.specs.Prelude.{not, List, [], ◌∷◌, ◌++◌, ℕ, zero, suc, ltb, eqb, get_or, length, take}
+use Rattle.base.specs.declared.reasons.Reason.TheVariants as reason
 use Rattle.base.specs.Choice.{either}
 use Rattle.base.specs.Refusals.{Condition, refuse, each}
 use Rattle.base.specs.Bytes.{bytes}
@@ -57,7 +58,7 @@ setup_in h = record { «class» = h.«class»; server_count = h.server_count; ho
 unfoldable pub contents_conditions : Offer → Contents → List Condition
 contents_conditions o c =
     offered_conditions o (setup_in c.header)
-    ++ (refuse 7 0 (either (ltb most_requests (length c.seconds)) (not (eqb (length c.seconds) (length c.servers))))
+    ++ (refuse reason.RequestCount 0 (either (ltb most_requests (length c.seconds)) (not (eqb (length c.seconds) (length c.servers))))
     ∷ each (request_conditions c.header.server_count c.seconds c.servers) (length c.seconds))
 
 -- the first k requests, with the same header (01's 'What demand 3 compares': cut)

@@ -1,13 +1,12 @@
 -- Who is refused with 43: what is to be written or started of a class that has ended, and nothing else. Assumes nothing.
-use Rattle.std.specs.Prelude.{true, false, List, [], ◌∷◌, ◌++◌, ◌≡◌, ℕ, ◌<◌, length}
+use Rattle.std.specs.Prelude.{true, false, List, [], ◌∷◌, ◌++◌, ◌≡◌, ℕ, ◌<◌, length, Ok, Err}
+use Rattle.base.specs.declared.reasons.Reason.TheVariants as reason
 use Rattle.std.proofs.Common.{ap, ◌∙◌, arith}
 use Rattle.std.proofs.lemmas.Bool.{lt-leb}
-use Rattle.base.specs.Refusals.{Condition, refuse, first, otherwise, short, each, Never}
+use Rattle.base.specs.Refusals.{Condition, refuse, first, otherwise, short, each, Never, Verdict}
 use Rattle.base.specs.RefusalLaws.{first_met, first_failed, first_append}
 use Rattle.base.specs.NumberLaws.{Without, empty, other, unmet, joined, of_each, otherwise_never}
 use Rattle.base.specs.declared.Refusal.{Refusal}
-use Rattle.base.specs.declared.Verdict.{Verdict}
-use Rattle.base.specs.declared.Verdict.TheVariants.{Passed, Refused}
 use Rattle.prices.specs.declared.Prices.{Prices}
 use Rattle.prices.specs.Tariff.{Tariff}
 use Rattle.prices.specs.Offer.{Offer}
@@ -21,16 +20,16 @@ use Rattle.request_log.specs.Answers.{write_verdict}
 
 -- it is refused with 43 where 3 does not hold
 pub offered_refused : (o : Offer) (s : Setup) → s.«class» < length o.tariff.table → o.ended s.«class» ≡ true
-    → first (offered_conditions o s) ≡ Refused no_longer_sold
+    → first (offered_conditions o s) ≡ Err no_longer_sold
 unfolding offered_conditions
-offered_refused o s l e = first_failed (class_condition o.tariff.table s) _ (lt-leb _ _ l) ∙ first_met (refuse 43 0 (o.ended s.«class»)) _ e
+offered_refused o s l e = first_failed (class_condition o.tariff.table s) _ (lt-leb _ _ l) ∙ first_met (refuse reason.EndedClass 0 (o.ended s.«class»)) _ e
 
 -- by the writer too, whatever else it is handed
-refused_first : (xs ys : List Condition) (r : Refusal) → first xs ≡ Refused r → first (xs ++ ys) ≡ Refused r
+refused_first : (xs ys : List Condition) (r : Refusal) → first xs ≡ Err r → first (xs ++ ys) ≡ Err r
 refused_first xs ys r e = first_append xs ys ∙ rw e
 
-pub write_refused : (o : Offer) (c : Contents) (log : ℕ) → o.tariff.judged ≡ Passed → c.header.«class» < length o.tariff.table
-    → o.ended c.header.«class» ≡ true → write_verdict o c log ≡ Refused no_longer_sold
+pub write_refused : (o : Offer) (c : Contents) (log : ℕ) → o.tariff.judged ≡ Ok tt → c.header.«class» < length o.tariff.table
+    → o.ended c.header.«class» ≡ true → write_verdict o c log ≡ Err no_longer_sold
 unfolding write_verdict contents_conditions
 write_refused o c log j l e =
     let refused = refused_first (offered_conditions o (setup_in c.header)) _ no_longer_sold (offered_refused o (setup_in c.header) l e) in

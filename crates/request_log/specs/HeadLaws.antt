@@ -1,16 +1,15 @@
 -- A log's header: its verdict hangs on the first bytes alone, a log is refused as its header is, and where that passes by its length or by 10 to 13.
-use Rattle.std.specs.Prelude.{not, List, [], ◌∷◌, ◌≢◌, ◌≡◌, ℕ, ◌+◌, ◌≤◌, ◌<◌, eqb, length}
+use Rattle.std.specs.Prelude.{not, List, [], ◌∷◌, ◌≢◌, ◌≡◌, ℕ, ◌+◌, ◌≤◌, ◌<◌, eqb, length, Ok, Err}
+use Rattle.base.specs.declared.reasons.Reason.TheVariants as reason
 use Rattle.std.proofs.Common.{sym, ap, ◌∙◌, arith}
 use borrow.Author.Tests.{le-ltb, ltb-false, eqb-true, not-false, eq-eqb, ne_eqb}
 use Rattle.base.specs.Choice.{either}
 use Rattle.base.specs.ChoiceLaws.{either_false}
 use Rattle.base.specs.Bytes.{byte, le16, le32}
-use Rattle.base.specs.Refusals.{Condition, refuse, first, from, or_else, otherwise, each}
+use Rattle.base.specs.Refusals.{Condition, refuse, first, from, or_else, otherwise, each, Verdict}
 use Rattle.base.specs.RefusalLaws.{first_append, first_passed, otherwise_passed}
 use Rattle.base.specs.NumberLaws.{Between, end, between, both_between, each_between, first_between}
 use Rattle.base.specs.declared.Refusal.{Refusal}
-use Rattle.base.specs.declared.Verdict.{Verdict}
-use Rattle.base.specs.declared.Verdict.TheVariants.{Passed, Refused}
 use Rattle.prices.specs.declared.Prices.{Prices}
 use Rattle.prices.specs.Tariff.{Tariff}
 use Rattle.checksum.specs.Sum.{sum_of}
@@ -18,6 +17,7 @@ use Rattle.request_log.specs.Sizes.{most_requests}
 use Rattle.request_log.specs.Fields.{version, class_of, server_count_of, home_of, request_count, requests_offset, id_offset, total_length, written_sum, length_for}
 use Rattle.request_log.specs.Conditions.{setup_conditions, head_conditions, form_conditions, request_conditions, head_verdict, verdict_of}
 use Rattle.request_log.specs.ConditionLaws.{log_requests, form_parts, verdict_parts}
+use Rattle.base.specs.Reasons.{number}
 
 -- 1 to 8 look at no byte after 19
 module _ (table : List Prices) (s t : List ℕ) (same : (k : ℕ) → k < 20 → byte t k ≡ byte s k) where
@@ -55,7 +55,7 @@ pub record Headed (s : List ℕ) : Type 0 where
   pub few : request_count s ≤ most_requests
   pub total_is : total_length s ≡ length_for (request_count s)
 
-pub headed : (t : Tariff) (s : List ℕ) → head_verdict t s ≡ Passed → Headed s
+pub headed : (t : Tariff) (s : List ℕ) → head_verdict t s ≡ Ok tt → Headed s
 unfolding head_verdict setup_conditions
 headed t s e =
     let f = (first_passed (head_conditions t.table s)).0 (otherwise_passed t.judged _ e).1 in
@@ -70,15 +70,15 @@ headed t s e =
 
 -- 9, whose place is 0
 abbrev pub nine : Refusal
-nine = record { number = 9; place = 0 }
+nine = record { reason = reason.Length; place = 0 }
 
 -- a header that is refused refuses the log
-pub head_refused : (t : Tariff) (s : List ℕ) (r : Refusal) → head_verdict t s ≡ Refused r → verdict_of t s ≡ Refused r
+pub head_refused : (t : Tariff) (s : List ℕ) (r : Refusal) → head_verdict t s ≡ Err r → verdict_of t s ≡ Err r
 unfolding or_else
 head_refused t s r e = verdict_parts t.judged t.table s ∙ rw (form_parts t.judged t.table s, e)
 
 -- where it passes, a log that is not as long as it says is refused by 9
-pub length_refused : (t : Tariff) (s : List ℕ) → head_verdict t s ≡ Passed → length s ≢ total_length s → verdict_of t s ≡ Refused nine
+pub length_refused : (t : Tariff) (s : List ℕ) → head_verdict t s ≡ Ok tt → length s ≢ total_length s → verdict_of t s ≡ Err nine
 unfolding or_else first
 length_refused t s e h = verdict_parts t.judged t.table s ∙ rw (form_parts t.judged t.table s, e, ne_eqb (length s) (total_length s) h)
 
@@ -88,14 +88,14 @@ unfolding request_conditions
 requests_between s i = between (omega arith, omega arith) (between (omega arith, omega arith) (between (omega arith, omega arith) end))
 
 -- and one that is, by 10 to 13
-pub late_refused : (t : Tariff) (s : List ℕ) (r : Refusal) → head_verdict t s ≡ Passed → length s ≡ total_length s → verdict_of t s ≡ Refused r
-    → (10 ≤ r.number) × (r.number ≤ 13)
+pub late_refused : (t : Tariff) (s : List ℕ) (r : Refusal) → head_verdict t s ≡ Ok tt → length s ≡ total_length s → verdict_of t s ≡ Err r
+    → (10 ≤ number r.reason) × (number r.reason ≤ 13)
 unfolding or_else first
 late_refused t s r e h v =
-    let sum = refuse 10 0 (not (eqb (written_sum s) (sum_of s))) ∷ [] in
-    let f : from t.judged (form_conditions t.table s) ≡ Passed =
+    let sum = refuse reason.Sum 0 (not (eqb (written_sum s) (sum_of s))) ∷ [] in
+    let f : from t.judged (form_conditions t.table s) ≡ (Ok tt) =
     form_parts t.judged t.table s ∙ rw (e, eq-eqb (length s) (total_length s) h) in
-    let w : otherwise (first sum) (first (each (log_requests s) (request_count s))) ≡ Refused r =
+    let w : otherwise (first sum) (first (each (log_requests s) (request_count s))) ≡ Err r =
     ap (λ (x : Verdict). otherwise (otherwise x (first sum)) (first (each (log_requests s) (request_count s)))) (sym f) ∙ sym (verdict_parts t.judged t.table s) ∙ v in
     let b : Between 10 13 sum = between (omega arith, omega arith) end in
     let l : Between 10 13 (each (log_requests s) (request_count s)) = each_between (log_requests s) (requests_between s) (request_count s) in
@@ -103,10 +103,10 @@ late_refused t s r e h v =
     (first_append sum (each (log_requests s) (request_count s)) ∙ w)
 
 -- a header is refused by 1 to 8, whatever its table
-pub head_number : (t : Tariff) (s : List ℕ) (r : Refusal) → t.judged ≡ Passed → head_verdict t s ≡ Refused r → (1 ≤ r.number) × (r.number ≤ 8)
+pub head_number : (t : Tariff) (s : List ℕ) (r : Refusal) → t.judged ≡ Ok tt → head_verdict t s ≡ Err r → (1 ≤ number r.reason) × (number r.reason ≤ 8)
 unfolding head_verdict setup_conditions
 head_number t s r j e =
-    let f : first (head_conditions t.table s) ≡ Refused r = rw j at e in
+    let f : first (head_conditions t.table s) ≡ Err r = rw j at e in
     let cs : Between 1 8 (head_conditions t.table s) =
     between (omega arith, omega arith) (between (omega arith, omega arith) (between (omega arith, omega arith) (between (omega arith, omega arith)
     (between (omega arith, omega arith) (between (omega arith, omega arith) (between (omega arith, omega arith) (between (omega arith, omega arith) end))))))) in

@@ -1,6 +1,5 @@
 -- What is in range, in plain facts: a setup, a request, a log, what is to be written. Assumes nothing.
-use Rattle.std.specs.Prelude.{◌≡◌, List, ℕ, ◌≤◌, ◌<◌, get_or, length}
-use Rattle.base.specs.declared.Verdict.TheVariants.{Passed}
+use Rattle.std.specs.Prelude.{◌≡◌, List, ℕ, ◌≤◌, ◌<◌, get_or, length, Ok}
 use Rattle.base.specs.Bytes.{byte}
 use Rattle.base.specs.Refusals.{first}
 use Rattle.prices.specs.Offer.{Offer}
@@ -46,7 +45,7 @@ pub record Proper (c : Contents) : Type 0 where
 
 -- contents that the writer does not refuse
 abbrev pub Writable : Offer → Contents → Type 0
-Writable o c = first (contents_conditions o c) ≡ Passed
+Writable o c = first (contents_conditions o c) ≡ Ok tt
 
 -- the id has sixteen elements
 abbrev pub Sixteen : Contents → Type 0

@@ -1,16 +1,14 @@
 -- What is written is read back, and what was read is written as it was. Assumes nothing.
 use mathlib.Core.List.{List, [], ◌∷◌, ◌++◌, append_assoc, append-nil}
-use Rattle.std.specs.Prelude.{◌≡◌, length, get_or, drop}
+use Rattle.std.specs.Prelude.{◌≡◌, length, get_or, drop, Ok}
 use Rattle.std.proofs.Math.Path.{refl, sym, ap}
 use Rattle.std.proofs.Common.{◌∙◌, take-append-drop, drop_at, length-take-le, take_all, take-suc}
 use Prim.Native.Nat.{ℕ, zero, suc, ◌+◌, ◌*◌, ◌≤◌, ◌<◌}
 use native.Mathlib.Omega.{arith}
-use Rattle.std.proofs.Math.ListN.{take, length-drop}
-use Rattle.std.proofs.Math.Seq.{take-add, get_or-drop}
+use Rattle.std.proofs.Math.ListN.{take}
+use Rattle.std.proofs.Math.Seq.{take-add}
 use Rattle.base.specs.Bytes.{byte, le16, le32, bytes, AreBytes}
-use Rattle.base.specs.declared.Verdict.TheVariants.{Passed}
 use Rattle.base.specs.BytesLaws.{bytes_small, bytes_le16, bytes_le32}
-use Rattle.base.specs.Lists.{build_same, build_read}
 use Rattle.prices.specs.Tariff.{Tariff}
 use Rattle.checksum.specs.Sum.{sum_of}
 use Rattle.request_log.specs.declared.Header.{Header}
@@ -18,7 +16,7 @@ use Rattle.request_log.specs.Fields.{version, class_of, server_count_of, home_of
 use Rattle.request_log.specs.Conditions.{Accepted}
 use Rattle.request_log.specs.Contents.{Contents, decode, head, request_bytes, requests_bytes, body, setup_in, encode}
 use Rattle.request_log.specs.Ranges.{Allowed, Sound, Proper, Sixteen}
-use Rattle.request_log.specs.AcceptedLaws.{accepted_sound, sound_accepted, seconds_length, servers_length, second_at, server_at, id_length}
+use Rattle.request_log.specs.AcceptedLaws.{accepted_sound, sound_accepted, seconds_length, servers_length, second_at, server_at, id_length, id_taken}
 use Rattle.request_log.specs.EncodeLaws.{encode_length, encode_version, encode_class, encode_server_count, encode_home, encode_zero, encode_requests_offset, encode_id_offset, encode_total, encode_written_sum, encode_sum, encode_count, encode_header, encode_seconds, encode_servers}
 
 -- ---- writing, then reading
@@ -29,7 +27,7 @@ unfolding decode
 decode_encode c f h = rw (encode_header c h, encode_seconds c h f, encode_servers c h f)
 
 -- what is written is accepted
-pub encode_accepted : (t : Tariff) (c : Contents) → t.judged ≡ Passed → c.header.«class» < length t.table → Proper c → Sixteen c → Accepted t (encode c)
+pub encode_accepted : (t : Tariff) (c : Contents) → t.judged ≡ Ok tt → c.header.«class» < length t.table → Proper c → Sixteen c → Accepted t (encode c)
 unfolding length_for
 encode_accepted t c j l f h =
     let count = encode_count c (omega (arith, f.requests_most)) in
@@ -101,11 +99,7 @@ module _ (s : List ℕ) (f : Sound s) (b : AreBytes s) where
 
   -- the id
   id_read : take 40 s ≡ take 24 s ++ id_of s
-  unfolding id_of
-  id_read =
-      take-add 24 16 s
-      ∙ ap (λ (l : List ℕ). take 24 s ++ l)
-      (sym (build_read 16 (drop 24 s) 0 (rw length-drop (omega (arith, long)))) ∙ build_same 16 _ _ (λ i l. get_or-drop 24 s i 0))
+  id_read = take-add 24 16 s ∙ ap (λ (l : List ℕ). take 24 s ++ l) (sym (id_taken s (omega (arith, long))))
 
   -- the first k requests
   requests_read : (k : ℕ) → k ≤ request_count s

@@ -1,6 +1,9 @@
 // The log format of 01's 'The log', and its reader.
 #![tactic(auto)]
 
+ghost use Rattle.std.specs.Prelude.{◌≡◌};
+ghost use Rattle.request_log.specs.Contents.{setup_in};
+
 mod conditions;
 mod reader;
 mod requests;
@@ -11,7 +14,7 @@ pub use reader::{header_in, read, read_by, read_with};
 pub use requests::{last_second, request_in, request_place};
 
 // What a file is served under: price class, number of servers (01: stations), home server.
-#[derive(Clone, Copy)]
+#[derive(Clone, Copy, Debug, PartialEq, Eq)]
 pub struct Setup {
     pub class: u8,
     pub server_count: u8,
@@ -20,7 +23,7 @@ pub struct Setup {
 
 // What a log says of its file, and a start is given: price class, number of servers (01: stations), home server, file id (01: pass id). Its layout is C's.
 #[repr(C)]
-#[derive(Clone, Copy)]
+#[derive(Clone, Copy, Debug, PartialEq, Eq)]
 pub struct Header {
     pub class: u8,
     pub server_count: u8,
@@ -28,32 +31,31 @@ pub struct Header {
     pub id: [u8; 16],
 }
 
+// All but the id.
+impl From<Header> for Setup {
+    ghost from_gives = { λ header setup. setup ≡ setup_in header };
+
+    fn from(header: Header) -> Setup {
+        Setup {
+            class: header.class,
+            server_count: header.server_count,
+            home: header.home,
+        }
+    }
+}
+
 // A request of a log (01: scan).
-#[derive(Clone, Copy)]
+#[derive(Clone, Copy, Debug, PartialEq, Eq)]
 pub struct Request {
     pub second: u32,
     pub server: u16,
 }
 
-// The number of requests read, or why the log is refused.
-#[derive(Clone, Copy)]
-pub enum ReadOutcome {
-    Requests(u16),
-    Refused(Refusal),
-}
-
-// The reader's answer. A refused log has a header of zeros.
-#[derive(Clone, Copy)]
+// The reader's answer: the number of requests, or why the log is refused. A refused log has a header of zeros.
+#[derive(Clone, Copy, Debug, PartialEq, Eq)]
 pub struct Decoded {
     pub header: Header,
-    pub outcome: ReadOutcome,
-}
-
-// The writer's answer: the length of the log, or why it is not written.
-#[derive(Clone, Copy)]
-pub enum Written {
-    Length(u64),
-    Refused(Refusal),
+    pub outcome: Result<u16, Refusal>,
 }
 
 // The most requests of a log.

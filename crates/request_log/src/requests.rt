@@ -6,13 +6,12 @@ ghost use Rattle.request_log.specs.Conditions.{before};
 
 use crate::Request;
 use base::bytes::{at16, at32};
-use base::widths::size_from_u16;
 
 // Where request k begins, from 0.
 pub fn request_place(k: u16) -> usize
     ensures { result ≡ 40 + 6 * k }
 {
-    40 + 6 * size_from_u16(k)
+    40 + 6 * usize::from(k)
 }
 
 // A request by its six bytes; 0 stands for a byte that is not there.
@@ -34,6 +33,7 @@ pub(crate) fn request_at(log: &[u8], k: u16) -> Request
 }
 
 // The second of the last request, 0 where there is none.
+#[tactic(auto, using(crate::specs::RequestLaws::last_none, crate::specs::RequestLaws::last_read), unfolding(crate::specs::Fields::request_count))]
 pub fn last_second(log: &[u8]) -> u32
     ensures { result ≡ before (seconds_of log.now) (request_count log.now) }
 {
@@ -41,5 +41,5 @@ pub fn last_second(log: &[u8]) -> u32
     if n == 0 {
         return 0;
     }
-    at32(log, 34 + 6 * size_from_u16(n))
+    at32(log, 34 + 6 * usize::from(n))
 }

@@ -1,17 +1,26 @@
--- An upload price as calls hand it on: whether one is given, and which.
-use Rattle.std.specs.Prelude.{Bool, true, false, ◌≡◌, refl, ℕ}
+-- An upload price as calls hand it on: whether one is given, and what is paid.
+use Rattle.std.specs.Prelude.{Bool, true, false, ◌≡◌, refl, ℕ, Some, None, is_some}
+use Rattle.std.specs.Prelude.{Option as Given}
+use Rattle.std.proofs.Math.Option.{none, some}
+use Rattle.std.specs.Option.{unwrap_or}
 use Rattle.base.specs.Choice.{pick}
 use Rattle.prices.specs.Uploads.{if_given}
 use Rattle.model.specs.Rates.{some?, or_zero}
 
--- there is one where one is given
-pub given_some : (given : Bool) (y : ℕ) → some? (if_given given y) ≡ given
+-- one is offered where one is given
+pub given_some : (given : Bool) → some? {A = ℕ} (pick given (some 0) none) ≡ given
+unfolding some?
+given_some true = refl
+given_some false = refl
+
+-- there is one where one is handed on
+pub asked_some : (u : Given ℕ) → some? (if_given u) ≡ is_some u
 unfolding some? if_given
-given_some true y = refl
-given_some false y = refl
+asked_some (Some y) = refl
+asked_some None = refl
 
 -- and it is paid there
-pub given_fee : (given : Bool) (y : ℕ) → or_zero (if_given given y) ≡ pick given y 0
+pub asked_fee : (u : Given ℕ) → or_zero (if_given u) ≡ unwrap_or u 0
 unfolding or_zero if_given
-given_fee true y = refl
-given_fee false y = refl
+asked_fee (Some y) = refl
+asked_fee None = refl

@@ -1,9 +1,10 @@
 -- Passes over some rows of a list, and the conditions 15 and 16, as the code comes by them. Assumes nothing.
 use Rattle.std.specs.Prelude.{Bool, false, not, List, [], ◌∷◌, ℕ, zero, suc, ◌+◌, ◌*◌, leb, ltb, eqb, get_or}
+use Rattle.base.specs.declared.reasons.Reason.TheVariants as reason
 use Rattle.base.specs.Choice.{pick, both, either}
 use Rattle.base.specs.Refusals.{Condition, refuse}
 use Rattle.base.specs.Sets.{has, put}
-use Rattle.prices.specs.Uploads.{if_given}
+use Rattle.std.proofs.Math.Option.{none, some}
 use Rattle.model.specs.Rates.{Rates}
 use Rattle.model.specs.Schedule.{Row, hold, move, transfer, upload}
 use Rattle.model.specs.RowForm.{row_at, fits}
@@ -46,14 +47,14 @@ upto ns to = pick (ltb to (row_count ns)) to (row_count ns)
 
 -- rates that offer uploads, or not; of the rates 15 asks no more
 unfoldable pub offering : Bool → Rates
-offering given = record { hold = 0; transfer = 0; upload = if_given given 0 }
+offering given = record { hold = 0; transfer = 0; upload = pick given (some 0) none }
 
 -- row i, from 0: 15, then 16, for n requests, the last at second `last`
 unfoldable pub row_tests : Bool → ℕ → ℕ → ℕ → List ℕ → ℕ → List Condition
 row_tests given count n last ns i =
-    refuse 15 (suc i)
+    refuse reason.RowForm (suc i)
     (either (not (kind_fits (offering given) (get_or ns (4 * i) 0) (get_or ns (4 * i + 3) 0))) (either (eqb n 0) (not (fits count last (row_at ns i)))))
-    ∷ refuse 16 (suc i) (misplaced ns i)
+    ∷ refuse reason.RowOrder (suc i) (misplaced ns i)
     ∷ []
 
 -- some number below n passes a test

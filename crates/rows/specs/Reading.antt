@@ -3,6 +3,8 @@ use Rattle.std.specs.Prelude.{List, ℕ, ◌+◌, ◌*◌, get_or}
 use Rattle.model.specs.Schedule.{Row, hold, move, transfer, upload}
 use Rattle.model.specs.RowForm.{row_of}
 use Rattle.rows.specs.declared.Quad.{Quad}
+use Rattle.rows.specs.declared.kinds.Row.{Row as Read}
+use Rattle.rows.specs.declared.kinds.Row.TheVariants.{Hold, Transfer, Upload}
 
 -- the four numbers of row i, from 0
 unfoldable pub quad_at : List ℕ → ℕ → Quad
@@ -12,6 +14,12 @@ quad_at ns i =
 -- the row that they are
 abbrev pub as_row : Quad → Row
 as_row r = row_of r.kind r.a r.b r.c
+
+-- the row that the code reads them as
+abbrev pub meant : Read → Row
+meant (Hold x a b) = hold x a b
+meant (Transfer y x τ) = move (transfer y x τ)
+meant (Upload x τ) = move (upload x τ)
 
 -- the server where a hold begins, a transfer leaves or an upload arrives, and the second
 unfoldable pub server_of : Row → ℕ

@@ -2,213 +2,93 @@
 ghost use Rattle.std.specs.Prelude.{◌≡◌, not, ◌<◌, eqb};
 ghost use Rattle.base.specs.Choice.{either};
 ghost use Rattle.base.specs.Refusals.{first, each};
-ghost use Rattle.model.specs.Schedule.{hold, move, transfer, upload};
-ghost use Rattle.model.specs.RowForm.{fits, follows, earlier};
+ghost use Rattle.model.specs.RowForm.{fits, follows};
 ghost use Rattle.model.specs.Checking.{row_count, kind_fits, misplaced};
-ghost use Rattle.rows.specs.Reading.{as_row};
+ghost use Rattle.rows.specs.Reading.{as_row, meant};
 ghost use Rattle.rows.specs.Passes.{offering, row_tests};
 
 use crate::Quad;
+use crate::kinds::Row;
 use crate::reading::row;
-use base::Verdict;
-use base::refusals::or_else;
-use base::widths::u64_from_size;
+use base::refusals::refuse_if;
+use base::{Reason, Verdict};
 
-// A hold that fits: a server below the count, an end after the start and not past the last second.
-fn hold_fits(count: u32, last: u32, r: Quad) -> bool
-    ensures { result ≡ fits count last (hold r.a r.b r.c) }
+// A row that fits: its servers below the count, a hold's end after its start, a transfer's target another than its source, and none past the last second.
+#[tactic(auto, using(std::proofs::lemmas::Bool::Decides::nat_tests), unfolding(model::specs::RowForm::fits))]
+fn fits(count: u32, last: u32, r: Row) -> bool
+    ensures { result ≡ fits count last (meant r) }
 {
-    if count <= r.a {
-        return false;
-    }
-    if r.c <= r.b {
-        return false;
-    }
-    r.c <= last
-}
-
-// A transfer that fits: two servers below the count, not past the last second.
-fn transfer_fits(count: u32, last: u32, r: Quad) -> bool
-    ensures { result ≡ fits count last (move (transfer r.a r.b r.c)) }
-{
-    if count <= r.a {
-        return false;
-    }
-    if count <= r.b {
-        return false;
-    }
-    if r.a == r.b {
-        return false;
-    }
-    last >= r.c
-}
-
-// An upload that fits: a server below the count, not past the last second.
-fn upload_fits(count: u32, last: u32, r: Quad) -> bool
-    ensures { result ≡ fits count last (move (upload r.a r.b)) }
-{
-    if count <= r.a {
-        return false;
-    }
-    r.b <= last
-}
-
-// A row that fits.
-fn fits(count: u32, last: u32, r: Quad) -> bool
-    ensures { result ≡ fits count last (as_row r) }
-{
-    if r.kind == 0 {
-        return hold_fits(count, last, r);
-    }
-    if r.kind == 1 {
-        return transfer_fits(count, last, r);
-    }
-    upload_fits(count, last, r)
-}
-
-// A hold may follow a hold: at a later server, or from later than the former's end.
-fn hold_follows(r: Quad, s: Quad) -> bool
-    ensures { result ≡ follows (hold r.a r.b r.c) (hold s.a s.b s.c) }
-{
-    if r.a < s.a {
-        return true;
-    }
-    if r.a != s.a {
-        return false;
-    }
-    r.c < s.b
-}
-
-// A transfer comes before another: by second, then source, then target.
-fn transfer_earlier(r: Quad, s: Quad) -> bool
-    ensures { result ≡ earlier (transfer r.a r.b r.c) (transfer s.a s.b s.c) }
-{
-    if r.c < s.c {
-        return true;
-    }
-    if r.c != s.c {
-        return false;
-    }
-    if r.a < s.a {
-        return true;
-    }
-    if r.a != s.a {
-        return false;
-    }
-    r.b < s.b
-}
-
-// An upload comes before another: by second, then target.
-fn upload_earlier(r: Quad, s: Quad) -> bool
-    ensures { result ≡ earlier (upload r.a r.b) (upload s.a s.b) }
-{
-    if r.b < s.b {
-        return true;
-    }
-    if r.b != s.b {
-        return false;
-    }
-    r.a < s.a
-}
-
-// A transfer may follow another row: a hold, or an earlier transfer.
-fn transfer_follows(r: Quad, s: Quad) -> bool
-    ensures { result ≡ follows (as_row r) (move (transfer s.a s.b s.c)) }
-{
-    if r.kind == 1 {
-        return transfer_earlier(r, s);
-    }
-    r.kind == 0
-}
-
-// An upload may follow another row: a hold, a transfer, or an earlier upload.
-fn upload_follows(r: Quad, s: Quad) -> bool
-    ensures { result ≡ follows (as_row r) (move (upload s.a s.b)) }
-{
-    if r.kind <= 1 {
-        return true;
-    }
-    upload_earlier(r, s)
-}
-
-// A row may follow another.
-fn follows(r: Quad, s: Quad) -> bool
-    ensures { result ≡ follows (as_row r) (as_row s) }
-{
-    if s.kind == 0 {
-        if r.kind == 0 {
-            return hold_follows(r, s);
+    match r {
+        Row::Hold(server, from, to) => server < count && from < to && to <= last,
+        Row::Transfer(source, target, second) => {
+            source != target && source < count && target < count && second <= last
         }
-        return false;
+        Row::Upload(target, second) => target < count && second <= last,
     }
-    if s.kind == 1 {
-        return transfer_follows(r, s);
+}
+
+// A row may follow another: holds by server, then each from later than the former's end; then transfers by second, source and target; then uploads by
+// second and target.
+#[tactic(auto, using(std::proofs::lemmas::Bool::Decides::nat_tests), unfolding(model::specs::RowForm::follows, model::specs::RowForm::earlier))]
+fn follows(r: Row, s: Row) -> bool
+    ensures { result ≡ follows (meant r) (meant s) }
+{
+    match (r, s) {
+        (Row::Hold(x, _, to), Row::Hold(y, from, _)) => x < y || x == y && to < from,
+        (Row::Transfer(y, x, t), Row::Transfer(v, u, s)) => (t, y, x) < (s, v, u),
+        (Row::Upload(x, t), Row::Upload(u, s)) => (t, x) < (s, u),
+        (Row::Hold(..), _) | (Row::Transfer(..), Row::Upload(..)) => true,
+        (Row::Transfer(..), Row::Hold(..)) => false,
+        (Row::Upload(..), _) => false,
     }
-    upload_follows(r, s)
 }
 
 // The kind of a row and its last number: 0 or 1 with any, or 2 with 0 where an upload price is given.
+#[tactic(auto, using(std::proofs::lemmas::Bool::Decides::nat_tests, crate::specs::GivenLaws::given_some), unfolding(model::specs::Checking::kind_fits, crate::specs::Passes::offering))]
 fn kind_fits(given: bool, r: Quad) -> bool
     ensures { result ≡ kind_fits (offering given) r.kind r.c }
 {
-    if r.kind <= 1 {
-        return true;
+    match r.kind {
+        0 | 1 => true,
+        2 => r.c == 0 && given,
+        _ => false,
     }
-    if r.kind != 2 {
-        return false;
-    }
-    if r.c != 0 {
-        return false;
-    }
-    given
 }
 
 // 15: a kind that does not fit, no request, or a row that does not fit.
 fn misfits(given: bool, count: u32, n: u16, last: u32, r: Quad) -> bool
     ensures { result ≡ either (not (kind_fits (offering given) r.kind r.c)) (either (eqb n 0) (not (fits count last (as_row r)))) }
 {
-    if !kind_fits(given, r) {
-        return true;
-    }
-    if n == 0 {
-        return true;
-    }
-    !fits(count, last, r)
+    !kind_fits(given, r) || n == 0 || !fits(count, last, Row::of(r))
 }
 
 // 16: row i may not follow the row before it.
+#[tactic(auto, using(crate::specs::PassSteps::misplaced_first, crate::specs::PassSteps::misplaced_read, std::proofs::lemmas::Bool::Decides::nat_tests))]
 fn misplaced(ns: &[u32], i: usize) -> bool
     ensures { result ≡ misplaced ns.now i }
 {
-    if i == 0 {
-        return false;
-    }
-    !follows(row(ns, i - 1), row(ns, i))
+    0 < i && !follows(Row::of(row(ns, i - 1)), Row::of(row(ns, i)))
 }
 
 // 15 and 16 for row i.
+#[tactic(auto, using(crate::specs::PassSteps::row_found, base::specs::RefusalLaws::first_after_ok, base::specs::RefusalLaws::first_after_err), unfolding(model::specs::Checking::row_count))]
 fn row_fault(ns: &[u32], given: bool, count: u32, n: u16, last: u32, i: usize) -> Verdict
     requires { i < row_count ns.now }
     ensures { result ≡ first (row_tests given count n last ns.now i) }
 {
-    let p = u64_from_size(i) + 1;
+    let p = (i as u64) + 1;
     let bad = misfits(given, count, n, last, row(ns, i));
-    let v = or_else(Verdict::Passed, bad, 15, p);
-    or_else(v, misplaced(ns, i), 16, p)
+    refuse_if(bad, Reason::RowForm, p)?;
+    refuse_if(misplaced(ns, i), Reason::RowOrder, p)
 }
 
 // 15 and 16 for each row.
+#[tactic(auto, using(base::specs::RefusalLaws::each_refused, request_log::specs::ConditionLaws::each_more), unfolding(base::specs::Refusals::first, base::specs::Refusals::each, model::specs::Checking::row_count))]
 pub fn rows_fault(ns: &[u32], given: bool, count: u32, n: u16, last: u32) -> Verdict
     ensures { result ≡ first (each (row_tests given count n last ns.now) (row_count ns.now)) }
 {
-    let rows = ns.len() / 4;
-    let mut i: usize = 0;
-    while i < rows {
-        let v = row_fault(ns, given, count, n, last, i);
-        if let Verdict::Refused(r) = v {
-            return Verdict::Refused(r);
-        }
-        i += 1;
+    for i in 0..ns.len() / 4 {
+        row_fault(ns, given, count, n, last, i)?;
     }
-    Verdict::Passed
+    Ok(())
 }

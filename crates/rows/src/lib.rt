@@ -12,7 +12,7 @@ pub use reading::{row, second};
 pub use sets::{join, member, servers_of, settled};
 
 // A row's four numbers: its kind and three more.
-#[derive(Clone, Copy)]
+#[derive(Clone, Copy, Debug, PartialEq, Eq)]
 pub struct Quad {
     pub kind: u32,
     pub a: u32,

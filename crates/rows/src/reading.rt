@@ -4,18 +4,17 @@ ghost use Rattle.model.specs.Checking.{row_count};
 ghost use Rattle.rows.specs.Reading.{quad_at, as_row, second_of};
 
 use crate::Quad;
+use crate::kinds::Row;
 
 // The number at i, or 0 past the end.
 fn number(ns: &[u32], i: usize) -> u32
     ensures { result ≡ get_or ns.now i 0 }
 {
-    if i < ns.len() {
-        return ns[i];
-    }
-    0
+    ns.get(i).copied().unwrap_or(0)
 }
 
 // Row i after the whole ones: the numbers that are left, and zeros.
+#[tactic(auto, using(crate::specs::ReadingLaws::quad_past), unfolding(crate::specs::Reading::quad_at))]
 fn rest(ns: &[u32], i: usize) -> Quad
     ensures { result ≡ quad_at ns.now i }
 {
@@ -37,6 +36,7 @@ fn rest(ns: &[u32], i: usize) -> Quad
 }
 
 // Row i, from 0, one of the whole ones.
+#[tactic(auto, unfolding(model::specs::Checking::row_count, crate::specs::Reading::quad_at))]
 pub(crate) fn whole(ns: &[u32], i: usize) -> Quad
     requires { i < row_count ns.now }
     ensures { result ≡ quad_at ns.now i }
@@ -51,6 +51,7 @@ pub(crate) fn whole(ns: &[u32], i: usize) -> Quad
 }
 
 // Row i, from 0; zeros past the end.
+#[tactic(auto, unfolding(model::specs::Checking::row_count))]
 pub fn row(ns: &[u32], i: usize) -> Quad
     ensures { result ≡ quad_at ns.now i }
 {
@@ -61,11 +62,13 @@ pub fn row(ns: &[u32], i: usize) -> Quad
 }
 
 // The second where a hold begins, a transfer leaves or an upload arrives.
+#[tactic(auto, unfolding(crate::specs::Reading::second_of))]
 pub fn second(r: Quad) -> u32
     ensures { result ≡ second_of (as_row r) }
 {
-    if r.kind == 1 {
-        return r.c;
+    match Row::of(r) {
+        Row::Hold(_, from, _) => from,
+        Row::Transfer(_, _, second) => second,
+        Row::Upload(_, second) => second,
     }
-    r.b
 }

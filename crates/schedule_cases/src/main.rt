@@ -2,139 +2,85 @@
 // all. A line gives the log, the rows' numbers, then the refusal's number and place, or `cost` and the cost.
 #![tactic(auto)]
 
-use base::Refusal;
-use checker::Checked;
 use request_log::Header;
 use std::io;
 use std::io::Print;
+use streams::Answer;
 
-fn print_refusal(rt: &impl Print, r: Refusal) -> io::Result<()> {
-    println!(rt; ": refused {} {}", r.number, r.place)
-}
+const HEADER: Header = Header {
+    class: 0,
+    server_count: 2,
+    home: 0,
+    id: *b"0123456789abcdef",
+};
 
-fn print_cost(rt: &impl Print, cost: u64) -> io::Result<()> {
-    println!(rt; ": cost {cost}")
-}
+// The seconds and servers of a log's requests. All of 2 servers, home 0, class 0.
+const LOGS: [(&[u32], &[u16]); 4] = [(&[2, 5], &[1, 0]), (&[3], &[0]), (&[5], &[1]), (&[], &[])];
 
-fn show(rt: &impl Print, log: &[u8], rows: &[u32]) -> io::Result<()> {
-    let c = checker::check(log, rows);
-    match c {
-        Checked::Cost(cost) => print_cost(rt, cost),
-        Checked::Refused(r) => print_refusal(rt, r),
-    }
-}
-
-fn header() -> Header {
-    Header {
-        class: 0,
-        server_count: 2,
-        home: 0,
-        id: *b"0123456789abcdef",
-    }
-}
-
-// Log 0: 2 at 1, 5 at 0. Log 1: 3 at 0. Log 2: 5 at 1. Log 3: no request. All of 2 servers, home 0, class 0.
-const SECONDS: [[u32; 2]; 4] = [[2, 5], [3, 0], [5, 0], [0, 0]];
-
-const SERVERS: [[u16; 2]; 4] = [[1, 0], [0, 0], [1, 0], [0, 0]];
-
-const REQUESTS: [usize; 4] = [2, 1, 1, 0];
-
-// The log, how many numbers, and the numbers.
-const CASES: [[u32; 14]; 31] = [
-    [0, 8, 0, 0, 0, 5, 1, 0, 1, 2, 0, 0, 0, 0],
-    [0, 0, 0, 0, 0, 0, 0, 0, 0, 0, 0, 0, 0, 0],
-    [0, 7, 0, 0, 0, 5, 1, 0, 1, 0, 0, 0, 0, 0],
-    [0, 9, 0, 0, 0, 5, 1, 0, 1, 2, 9, 0, 0, 0],
-    [0, 8, 0, 0, 0, 5, 2, 0, 1, 2, 0, 0, 0, 0],
-    [0, 8, 0, 2, 0, 5, 1, 0, 1, 2, 0, 0, 0, 0],
-    [0, 8, 0, 0, 5, 5, 1, 0, 1, 2, 0, 0, 0, 0],
-    [0, 8, 0, 0, 0, 6, 1, 0, 1, 2, 0, 0, 0, 0],
-    [0, 8, 0, 0, 0, 5, 1, 2, 1, 2, 0, 0, 0, 0],
-    [0, 8, 0, 0, 0, 5, 1, 0, 2, 2, 0, 0, 0, 0],
-    [0, 8, 0, 0, 0, 5, 1, 0, 0, 2, 0, 0, 0, 0],
-    [0, 12, 0, 0, 0, 5, 1, 0, 1, 2, 1, 0, 1, 5],
-    [0, 12, 0, 0, 0, 5, 1, 0, 1, 2, 1, 0, 1, 6],
-    [0, 12, 0, 0, 0, 2, 0, 0, 2, 5, 1, 0, 1, 2],
-    [0, 12, 0, 0, 0, 2, 0, 0, 3, 5, 1, 0, 1, 2],
-    [0, 12, 0, 0, 0, 5, 0, 0, 0, 5, 1, 0, 1, 2],
-    [0, 12, 0, 1, 2, 4, 0, 0, 0, 5, 1, 0, 1, 2],
-    [0, 12, 0, 0, 0, 5, 0, 1, 2, 4, 1, 0, 1, 2],
-    [0, 12, 0, 0, 0, 5, 1, 0, 1, 2, 1, 0, 1, 2],
-    [0, 12, 0, 0, 0, 5, 1, 0, 1, 2, 0, 1, 2, 4],
-    [0, 12, 0, 0, 0, 5, 1, 0, 1, 2, 1, 1, 0, 2],
-    [0, 12, 0, 0, 0, 5, 1, 1, 0, 2, 1, 0, 1, 2],
-    [0, 8, 0, 1, 1, 4, 1, 0, 1, 2, 0, 0, 0, 0],
-    [0, 8, 0, 0, 0, 5, 1, 1, 0, 2, 0, 0, 0, 0],
-    [0, 8, 0, 0, 0, 5, 1, 0, 1, 1, 0, 0, 0, 0],
-    [0, 8, 0, 0, 0, 4, 1, 0, 1, 2, 0, 0, 0, 0],
-    [1, 12, 0, 0, 2, 3, 0, 1, 1, 2, 1, 1, 0, 2],
-    [2, 8, 0, 1, 0, 5, 1, 0, 1, 0, 0, 0, 0, 0],
-    [3, 0, 0, 0, 0, 0, 0, 0, 0, 0, 0, 0, 0, 0],
-    [3, 4, 1, 0, 1, 0, 0, 0, 0, 0, 0, 0, 0, 0],
-    [3, 3, 1, 0, 1, 0, 0, 0, 0, 0, 0, 0, 0, 0],
+// The log, and the rows' numbers.
+const CASES: [(usize, &[u32]); 31] = [
+    (0, &[0, 0, 0, 5, 1, 0, 1, 2]),
+    (0, &[]),
+    (0, &[0, 0, 0, 5, 1, 0, 1]),
+    (0, &[0, 0, 0, 5, 1, 0, 1, 2, 9]),
+    (0, &[0, 0, 0, 5, 2, 0, 1, 2]),
+    (0, &[0, 2, 0, 5, 1, 0, 1, 2]),
+    (0, &[0, 0, 5, 5, 1, 0, 1, 2]),
+    (0, &[0, 0, 0, 6, 1, 0, 1, 2]),
+    (0, &[0, 0, 0, 5, 1, 2, 1, 2]),
+    (0, &[0, 0, 0, 5, 1, 0, 2, 2]),
+    (0, &[0, 0, 0, 5, 1, 0, 0, 2]),
+    (0, &[0, 0, 0, 5, 1, 0, 1, 2, 1, 0, 1, 5]),
+    (0, &[0, 0, 0, 5, 1, 0, 1, 2, 1, 0, 1, 6]),
+    (0, &[0, 0, 0, 2, 0, 0, 2, 5, 1, 0, 1, 2]),
+    (0, &[0, 0, 0, 2, 0, 0, 3, 5, 1, 0, 1, 2]),
+    (0, &[0, 0, 0, 5, 0, 0, 0, 5, 1, 0, 1, 2]),
+    (0, &[0, 1, 2, 4, 0, 0, 0, 5, 1, 0, 1, 2]),
+    (0, &[0, 0, 0, 5, 0, 1, 2, 4, 1, 0, 1, 2]),
+    (0, &[0, 0, 0, 5, 1, 0, 1, 2, 1, 0, 1, 2]),
+    (0, &[0, 0, 0, 5, 1, 0, 1, 2, 0, 1, 2, 4]),
+    (0, &[0, 0, 0, 5, 1, 0, 1, 2, 1, 1, 0, 2]),
+    (0, &[0, 0, 0, 5, 1, 1, 0, 2, 1, 0, 1, 2]),
+    (0, &[0, 1, 1, 4, 1, 0, 1, 2]),
+    (0, &[0, 0, 0, 5, 1, 1, 0, 2]),
+    (0, &[0, 0, 0, 5, 1, 0, 1, 1]),
+    (0, &[0, 0, 0, 4, 1, 0, 1, 2]),
+    (1, &[0, 0, 2, 3, 0, 1, 1, 2, 1, 1, 0, 2]),
+    (2, &[0, 1, 0, 5, 1, 0, 1, 0]),
+    (3, &[]),
+    (3, &[1, 0, 1, 0]),
+    (3, &[1, 0, 1]),
 ];
 
-// A log of the first n of two requests.
-fn written(seconds: [u32; 2], servers: [u16; 2], n: usize) -> [u8; 52] {
+// Log i: its bytes, and how many.
+fn written(i: usize) -> ([u8; 52], usize) {
     let mut log = [0u8; 52];
-    if 2 < n {
-        return log;
-    }
-    writer::write(header(), &seconds[..n], &servers[..n], &mut log);
-    log
+    let Some((seconds, servers)) = LOGS.get(i) else {
+        return (log, 0);
+    };
+    let length = writer::write(HEADER, seconds, servers, &mut log).unwrap_or(0);
+    (log, length as usize)
 }
 
-// Log i.
-fn sample(i: usize) -> [u8; 52] {
-    if 3 < i {
-        return [0u8; 52];
+fn show(rt: &impl Print, i: usize, rows: &[u32]) -> io::Result<()> {
+    print!(rt; "log {i} rows")?;
+    for x in rows {
+        print!(rt; " {x}")?;
     }
-    written(SECONDS[i], SERVERS[i], REQUESTS[i])
-}
-
-fn show_first(
-    rt: &impl Print,
-    log: [u8; 52],
-    bytes: usize,
-    rows: [u32; 14],
-    n: usize,
-) -> io::Result<()> {
-    if 52 < bytes {
+    let (log, length) = written(i);
+    let Some(bytes) = log.get(..length) else {
         return Ok(());
-    }
-    if 12 < n {
-        return Ok(());
-    }
-    show(rt, &log[..bytes], &rows[2..n + 2])
-}
-
-fn length_of(i: usize) -> usize {
-    if 3 < i {
-        return 0;
-    }
-    let n = REQUESTS[i];
-    if 2 < n {
-        return 0;
-    }
-    40 + 6 * n
-}
-
-fn case(rt: &impl Print, row: [u32; 14]) -> io::Result<()> {
-    let i = row[0] as usize;
-    let n = row[1] as usize;
-    print!(rt; "log {} rows", row[0])?;
-    for k in 0..12 {
-        if k < n {
-            print!(rt; " {}", row[k + 2])?;
-        }
-    }
-    show_first(rt, sample(i), length_of(i), row, n)
+    };
+    let answer = Answer {
+        word: "cost",
+        outcome: checker::check(bytes, rows),
+    };
+    println!(rt; ": {answer}")
 }
 
 fn main(rt: HostRuntime) -> io::Result<()> {
-    for k in 0..31 {
-        case(&rt, CASES[k])?;
+    for (i, rows) in CASES {
+        show(&rt, i, rows)?;
     }
     Ok(())
 }

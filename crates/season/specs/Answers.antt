@@ -1,8 +1,7 @@
 -- What a piece is answered, and what the room holds after it. Assumes nothing.
-use Rattle.std.specs.Prelude.{List, ℕ, length, take}
+use Rattle.std.specs.Prelude.{List, ℕ, length, take, Ok, Err}
+use Rattle.base.specs.Refusals.{Verdict}
 use Rattle.base.specs.Lent.{lent}
-use Rattle.base.specs.declared.Verdict.{Verdict}
-use Rattle.base.specs.declared.Verdict.TheVariants.{Passed, Refused}
 use Rattle.prices.specs.Tariff.{Tariff}
 use Rattle.season.specs.declared.Season.{Season}
 use Rattle.season.specs.declared.Fed.{Fed}
@@ -14,8 +13,8 @@ gathered_in season room = gathered season.tally (take season.held room)
 
 -- the answer by the verdict: the season after the piece, or as it was
 unfoldable pub fed_by : Verdict → Season → Gathered → Fed
-fed_by Passed season after = record { season = record { tally = after.tally; held = length after.held }; verdict = Passed }
-fed_by (Refused r) season after = record { season = season; verdict = Refused r }
+fed_by (Ok _) season after = record { season = record { tally = after.tally; held = length after.held }; verdict = Ok tt }
+fed_by (Err r) season after = record { season = season; verdict = Err r }
 
 abbrev pub fed : Tariff → Season → List ℕ → List ℕ → Fed
 fed t season room piece = fed_by (feed_verdict season.held (length room)) season (with_bytes t (gathered_in season room) piece)

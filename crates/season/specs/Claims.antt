@@ -1,8 +1,7 @@
 -- What is claimed of a season: of pieces that are fed one after the other, and of the worst log. Assumes nothing.
-use Rattle.std.specs.Prelude.{List, [], ◌∷◌, ◌++◌, ◌≢◌, ◌≡◌, ℕ, suc, ◌*◌, ◌≤◌, ◌<◌, length, get_or}
-use Rattle.base.specs.declared.Verdict.TheVariants.{Passed}
+use Rattle.std.specs.Prelude.{List, [], ◌∷◌, ◌++◌, ◌≢◌, ◌≡◌, ℕ, suc, ◌*◌, ◌≤◌, ◌<◌, length, get_or, Ok}
 use Rattle.prices.specs.Tariff.{Tariff}
-use Rattle.season.specs.declared.Met.{Met}
+use Rattle.season.specs.Tallies.{Met}
 use Rattle.season.specs.declared.Worst.{Worst}
 use Rattle.season.specs.declared.Season.{Season}
 use Rattle.season.specs.Steps.{feed_verdict}
@@ -26,7 +25,7 @@ fed_pieces t k (piece ∷ pieces) = fed_pieces t (fed_piece t k piece) pieces
 -- none of them is refused
 unfoldable pub Passes : Tariff → Kept → List (List ℕ) → Type 0
 Passes t k [] = Unit {0}
-Passes t k (piece ∷ pieces) = (feed_verdict k.season.held (length k.room) ≡ Passed) × Passes t (fed_piece t k piece) pieces
+Passes t k (piece ∷ pieces) = (feed_verdict k.season.held (length k.room) ≡ Ok tt) × Passes t (fed_piece t k piece) pieces
 
 -- all of them, one after the other
 unfoldable pub joined : List (List ℕ) → List ℕ
@@ -37,7 +36,7 @@ joined (piece ∷ pieces) = piece ++ joined pieces
 
 -- the log at an index; past the end one without requests
 abbrev pub no_log : Met
-no_log = record { verdict = Passed; requests = 0; least = 0; running = 0 }
+no_log = record { verdict = Ok tt; requests = 0; least = 0; running = 0 }
 
 abbrev pub log_at : List Met → ℕ → Met
 log_at ms j = get_or ms j no_log

@@ -2,7 +2,7 @@
 use Rattle.std.specs.Prelude.{false, ℕ, ◌+◌, ◌-◌, ◌^◌, ltb, get_or, replicate}
 use Rattle.base.specs.Choice.{pick}
 use Rattle.base.specs.Lists.{build}
-use Rattle.season.specs.declared.Met.{Met}
+use Rattle.season.specs.Tallies.{Met}
 use Rattle.season.specs.declared.Tally.{Tally}
 use Rattle.season.specs.Tallies.{numbers, one_if, accepts, refuses, ends, no_worst, worse}
 

@@ -1,16 +1,16 @@
 -- The logs that an input is made of, end to end, and what each of them is answered (02's Req 12). Assumes nothing.
-use Rattle.std.specs.Prelude.{Bool, true, false, List, [], ◌∷◌, ℕ, zero, suc, ltb, take, drop}
+use Rattle.std.specs.Prelude.{Bool, true, false, List, [], ◌∷◌, ℕ, zero, suc, ltb, take, drop, Ok, Err}
+use Rattle.base.specs.Refusals.{Verdict}
+use Rattle.base.specs.declared.reasons.Reason.TheVariants as reason
 use Rattle.std.proofs.Math.Option.{none}
 use Rattle.base.specs.Choice.{pick}
-use Rattle.base.specs.declared.Verdict.{Verdict}
-use Rattle.base.specs.declared.Verdict.TheVariants.{Passed, Refused}
 use Rattle.prices.specs.Tariff.{Tariff}
 use Rattle.request_log.specs.Fields.{request_count, total_length}
 use Rattle.request_log.specs.Conditions.{verdict_of}
 use Rattle.model.specs.LogRequests.{requests_in, rates_in}
 use Rattle.model.specs.Plan.{plan_cost}
 use Rattle.live.specs.Live.{running_bill}
-use Rattle.season.specs.declared.Met.{Met}
+use Rattle.season.specs.Tallies.{Met}
 use Rattle.season.specs.Tallies.{ends, tally_of}
 use Rattle.season.specs.ReportText.{report_text}
 
@@ -24,8 +24,8 @@ least_bill t log = plan_cost (rates_in t none log) (requests_in log) (request_co
 
 -- a log by its verdict: how many requests it has, its least and its running cost; nothing of a refused one
 unfoldable pub met_as : Verdict → Tariff → List ℕ → Met
-met_as Passed t log = record { verdict = Passed; requests = request_count log; least = least_bill t log; running = running_bill t log }
-met_as (Refused r) t log = record { verdict = Refused r; requests = 0; least = 0; running = 0 }
+met_as (Ok _) t log = record { verdict = Ok tt; requests = request_count log; least = least_bill t log; running = running_bill t log }
+met_as (Err r) t log = record { verdict = Err r; requests = 0; least = 0; running = 0 }
 
 -- a log that is looked at
 unfoldable pub looked_at : Tariff → List ℕ → Met
@@ -33,7 +33,7 @@ looked_at t log = met_as (verdict_of t log) t log
 
 -- the log after all those: refused by 45
 unfoldable pub one_too_many : Met
-one_too_many = record { verdict = Refused (record { number = 45; place = 0 }); requests = 0; least = 0; running = 0 }
+one_too_many = record { verdict = Err (record { reason = reason.LogCount; place = 0 }); requests = 0; least = 0; running = 0 }
 
 -- how long the log at the front is: as its header says, and a header at least
 unfoldable pub log_length : List ℕ → ℕ

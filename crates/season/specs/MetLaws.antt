@@ -1,5 +1,6 @@
 -- What holds of each log that is met: those of an input, by any table.
-use Rattle.std.specs.Prelude.{Bool, true, false, ◌≡◌, length, take, drop}
+use Rattle.std.specs.Prelude.{Bool, true, false, ◌≡◌, length, take, drop, Ok, Err}
+use Rattle.base.specs.Refusals.{Verdict}
 use mathlib.Core.List.{List, [], ◌∷◌}
 use Rattle.std.proofs.Common.{inl, inr, sym, ap, ◌∙◌}
 use Rattle.std.proofs.Math.Path.{refl}
@@ -7,8 +8,6 @@ use Prim.Native.Nat.{ℕ, zero, suc, ◌^◌, ◌≤◌, ◌<◌}
 use native.Mathlib.Omega.{arith}
 use Rattle.base.specs.Choice.{pick, same_or_not}
 use Rattle.base.specs.declared.Refusal.{Refusal}
-use Rattle.base.specs.declared.Verdict.{Verdict}
-use Rattle.base.specs.declared.Verdict.TheVariants.{Passed, Refused}
 use Rattle.prices.specs.PriceLaws.{Priced}
 use Rattle.prices.specs.Tariff.{Tariff, built_in}
 use Rattle.request_log.specs.Fields.{total_length}
@@ -16,11 +15,12 @@ use Rattle.request_log.specs.Conditions.{Accepted, head_verdict, verdict_of}
 use Rattle.request_log.specs.HeadLaws.{nine, head_refused, head_number, length_refused, late_refused}
 use Rattle.live.specs.Live.{running_bill}
 use Rattle.live.specs.LiveClaim.{bills, least_some, built_in_bills, least_most}
-use Rattle.season.specs.declared.Met.{Met}
+use Rattle.season.specs.Tallies.{Met}
 use Rattle.season.specs.Tallies.{ends}
 use Rattle.season.specs.TallyLaws.{Each, SmallLog, NumberedVerdict, FairLog}
 use Rattle.season.specs.WorstLaws.{RatedLog}
 use Rattle.season.specs.Met.{least_bill, met_as, looked_at, one_too_many, log_length, empty, met}
+use Rattle.base.specs.Reasons.{number}
 
 -- what holds of every log that is looked at, and of the one too many, holds of each log met
 module _ (t : Tariff) (P : Met → Type 0) (looked : (s : List ℕ) → P (looked_at t s)) (beyond : P one_too_many) where
@@ -52,13 +52,13 @@ met_few t (suc k) s =
 -- ---- a log looked at, by its verdict
 
 module _ (t : Tariff) where
-  by_verdict : (P : Met → Type 0) (s : List ℕ) → (Accepted t s → P (met_as Passed t s)) → ((r : Refusal) → verdict_of t s ≡ Refused r → P (met_as (Refused r) t s)) → P (looked_at t s)
+  by_verdict : (P : Met → Type 0) (s : List ℕ) → (Accepted t s → P (met_as (Ok tt) t s)) → ((r : Refusal) → verdict_of t s ≡ Err r → P (met_as (Err r) t s)) → P (looked_at t s)
   unfolding looked_at Accepted
   by_verdict P s a b = go (verdict_of t s) refl
     where
       go : (v : Verdict) → verdict_of t s ≡ v → P (met_as v t s)
-      go Passed e = a e
-      go (Refused r) e = b r e
+      go (Ok _) e = a e
+      go (Err r) e = b r e
 
   -- its running cost is at least its least one, and at most three times that
   pub fair : Priced t → (s : List ℕ) → FairLog (looked_at t s)
@@ -71,17 +71,17 @@ module _ (t : Tariff) where
   rated priced s = by_verdict RatedLog s (λ a n. least_some t priced s a (omega arith)) (λ r e n. absurd (n refl))
 
   -- refused, it has one of the numbers 1 to 13
-  pub log_number : t.judged ≡ Passed → (s : List ℕ) (r : Refusal) → verdict_of t s ≡ Refused r → r.number ≤ 13
+  pub log_number : t.judged ≡ Ok tt → (s : List ℕ) (r : Refusal) → verdict_of t s ≡ Err r → number r.reason ≤ 13
   log_number j s r e = go (head_verdict t s) refl
     where
-      go : (v : Verdict) → head_verdict t s ≡ v → r.number ≤ 13
-      go (Refused q) f = let z : Refused q ≡ Refused r = sym (head_refused t s q f) ∙ e in let y : q ≡ r = cc in omega (arith, (head_number t s q j f).1, ap (λ (x : Refusal). x.number) y)
-      go Passed f = elim (same_or_not (length s) (total_length s)) [
+      go : (v : Verdict) → head_verdict t s ≡ v → number r.reason ≤ 13
+      go (Err q) f = let z : Err q ≡ Err r = sym (head_refused t s q f) ∙ e in let y : q ≡ r = cc in omega (arith, (head_number t s q j f).1, ap (λ (x : Refusal). number x.reason) y)
+      go (Ok _) f = elim (same_or_not (length s) (total_length s)) [
         | inl h ↦ (late_refused t s r f h e).1
-        | inr h ↦ let z : Refused nine ≡ Refused r = sym (length_refused t s f h) ∙ e in let y : nine ≡ r = cc in omega (arith, ap (λ (x : Refusal). x.number) y)
+        | inr h ↦ let z : Err nine ≡ Err r = sym (length_refused t s f h) ∙ e in let y : nine ≡ r = cc in omega (arith, ap (λ (x : Refusal). number x.reason) y)
       ]
 
-  pub numbered : t.judged ≡ Passed → (s : List ℕ) → NumberedVerdict (looked_at t s).verdict
+  pub numbered : t.judged ≡ Ok tt → (s : List ℕ) → NumberedVerdict (looked_at t s).verdict
   unfolding met_as
   numbered j s = by_verdict (λ m. NumberedVerdict m.verdict) s (λ a. tt) (λ r e. omega (arith, log_number j s r e))
 

@@ -1,12 +1,11 @@
 -- How many bytes a log that is held may take before it is looked at again: in between it is unfinished.
-use Rattle.std.specs.Prelude.{true, false, List, [], ◌∷◌, ◌++◌, ◌⊎◌, ◌≡◌, refl, ℕ, suc, ◌+◌, ◌-◌, ◌≤◌, ◌<◌, ltb, length}
+use Rattle.std.specs.Prelude.{true, false, List, [], ◌∷◌, ◌++◌, ◌⊎◌, ◌≡◌, refl, ℕ, suc, ◌+◌, ◌-◌, ◌≤◌, ◌<◌, ltb, length, Ok, Err}
+use Rattle.base.specs.Refusals.{Verdict}
 use Rattle.std.proofs.Common.{append_assoc, inl, inr, ap, ◌∙◌, arith, length-append, lt-ltb, le-ltb, ltb-true}
 use Rattle.std.proofs.Math.ListN.{get_or-append}
 use Rattle.base.specs.Choice.{pick, both, le_or_lt, true_or_false}
 use Rattle.base.specs.ChoiceLaws.{both_true}
 use Rattle.base.specs.Bytes.{byte, le16}
-use Rattle.base.specs.declared.Verdict.{Verdict}
-use Rattle.base.specs.declared.Verdict.TheVariants.{Passed, Refused}
 use Rattle.prices.specs.Tariff.{Tariff}
 use Rattle.request_log.specs.Sizes.{log_room}
 use Rattle.request_log.specs.Fields.{total_length, length_for}
@@ -38,15 +37,15 @@ head_front t s u h = head_same t s (s ++ u) h (simp length-append (omega arith))
 -- ---- unfinished logs
 
 -- a verdict that passes
-pub accepted : (v : Verdict) → accepts v ≡ true → v ≡ Passed
+pub accepted : (v : Verdict) → accepts v ≡ true → v ≡ Ok tt
 unfolding accepts
-accepted Passed e = refl
-accepted (Refused r) e = absurd (let z : ◌≡◌ {A = ℕ} 0 1 = cc in omega arith)
+accepted (Ok _) e = refl
+accepted (Err r) e = absurd (let z : ◌≡◌ {A = ℕ} 0 1 = cc in omega arith)
 
 -- what they are
 pub data Unfinished (t : Tariff) (s : List ℕ) : Type 0 where
   short_of_header : length s < 40 → Unfinished t s
-  short_of_total : 40 ≤ length s → head_verdict t s ≡ Passed → length s < total_length s → Unfinished t s
+  short_of_total : 40 ≤ length s → head_verdict t s ≡ Ok tt → length s < total_length s → Unfinished t s
 
 pub unfinished_is : (t : Tariff) (s : List ℕ) → unfinished t s ≡ true → Unfinished t s
 unfolding unfinished

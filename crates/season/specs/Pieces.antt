@@ -1,5 +1,5 @@
 -- A list of pieces, each fed to the season and the room that the one before left: whatever the pieces are, none is refused and the tally is that of the whole input.
-use Rattle.std.specs.Prelude.{Bool, true, false, List, [], ◌∷◌, ◌++◌, ◌⊎◌, ◌≡◌, refl, ℕ, ◌-◌, ◌≤◌, ◌<◌, take, replicate}
+use Rattle.std.specs.Prelude.{Bool, true, false, List, [], ◌∷◌, ◌++◌, ◌⊎◌, ◌≡◌, refl, ℕ, ◌-◌, ◌≤◌, ◌<◌, take, replicate, Ok}
 use Rattle.std.proofs.Common.{inl, inr, sym, ◌∙◌, arith, length-append, take_at, le-ltb}
 use Rattle.std.proofs.Math.Path.{ap, subst}
 use Rattle.std.proofs.Math.ListN.{length}
@@ -7,9 +7,7 @@ use Rattle.std.proofs.lemmas.List.{length-replicate}
 use Rattle.std.proofs.lemmas.Bool.{lt-leb}
 use Rattle.base.specs.Choice.{pick, true_or_false}
 use Rattle.base.specs.Lent.{lent}
-use Rattle.base.specs.Refusals.{first}
-use Rattle.base.specs.declared.Verdict.{Verdict}
-use Rattle.base.specs.declared.Verdict.TheVariants.{Passed}
+use Rattle.base.specs.Refusals.{first, Verdict}
 use Rattle.prices.specs.Tariff.{Tariff}
 use Rattle.request_log.specs.Sizes.{log_room}
 use Rattle.season.specs.Steps.{Gathered, gathered, full, unfinished, stepped, with_byte, with_bytes, feed_verdict}
@@ -43,7 +41,7 @@ pub record Ready (k : Kept) : Type 0 where
   pub short : k.season.held < log_room
 
 -- then a piece is not refused
-pub ready_passes : (k : Kept) → Ready k → feed_verdict k.season.held (length k.room) ≡ Passed
+pub ready_passes : (k : Kept) → Ready k → feed_verdict k.season.held (length k.room) ≡ Ok tt
 unfolding feed_verdict first
 ready_passes k r = rw (lt-leb log_room k.season.held r.short, le-ltb (length k.room) log_room r.roomy)
 
@@ -63,7 +61,7 @@ module _ (t : Tariff) (k : Kept) (piece : List ℕ) (r : Ready k) where
   unfolding fed_by lent
   after_piece h =
       let short : length after.held < log_room = held_short t (gathered_in k.season k.room) piece h in
-      let passed : After t after (kept_after Passed) =
+      let passed : After t after (kept_after (Ok tt)) =
       record {
         ready = record { roomy = simp (length-append, length-replicate) (omega (arith, r.roomy)); short = short };
         holds = ap (gathered after.tally) (take_at after.held (replicate (length k.room - length after.held) 0) (length after.held) refl);

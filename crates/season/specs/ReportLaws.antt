@@ -1,12 +1,10 @@
 -- The report as it is written, line by line, and how long it is.
-use Rattle.std.specs.Prelude.{List, [], ◌∷◌, ◌≢◌, ℕ, zero, suc, ◌*◌, ◌^◌, ◌≤◌, ◌<◌, length, get_or, take}
+use Rattle.std.specs.Prelude.{List, [], ◌∷◌, ◌≢◌, ℕ, zero, suc, ◌*◌, ◌^◌, ◌≤◌, ◌<◌, length, get_or, take, Ok, Err}
 use Rattle.std.proofs.Common.{inl, inr, sym, length-append, eq-eqb, ne_eqb}
 use Rattle.std.proofs.Math.Path.{◌≡◌}
 use native.Mathlib.Omega.{arith}
 use Rattle.base.specs.Choice.{same_or_not}
 use Rattle.base.specs.declared.Refusal.{Refusal}
-use Rattle.base.specs.declared.Verdict.TheVariants.{Passed}
-use Rattle.text.specs.declared.Printed.TheVariants as print
 use Rattle.text.specs.Answers.{room_verdict, printed, text_left}
 use Rattle.text.specs.AnswerLaws.{room_passed}
 use Rattle.text.specs.LineLaws.{bare_length, number_length, figure_length}
@@ -124,16 +122,16 @@ report_length tally a c l r p x y =
 -- ---- a report in a text that has room for any
 
 module _ (tally : Tally) (text : List ℕ) (fits : length (report_text tally) ≤ report_room) (room : report_room ≤ length text) where
-  passes : room_verdict (report_text tally) (length text) ≡ Passed
+  passes : room_verdict (report_text tally) (length text) ≡ Ok tt
   passes = room_passed (report_text tally) (length text) (omega arith)
 
   -- it stands at the front
-  pub report_stands : (n : ℕ) (text' : List ℕ) → printed (room_verdict (report_text tally) (length text)) (report_text tally) ≡ print.Length n
+  pub report_stands : (n : ℕ) (text' : List ℕ) → printed (room_verdict (report_text tally) (length text)) (report_text tally) ≡ Ok n
       → text' ≡ text_left (report_text tally) text → (n ≤ length text') × (take n text' ≡ report_text tally)
   unfolding shown
-  report_stands n text' e f = printed_shown Passed (report_text tally) text (λ z. omega arith) n text' e f
+  report_stands n text' e f = printed_shown (Ok tt) (report_text tally) text (λ z. omega arith) n text' e f
 
   -- and is not refused
-  pub report_prints : (r : Refusal) → printed (room_verdict (report_text tally) (length text)) (report_text tally) ≡ print.Refused r → ⊥
+  pub report_prints : (r : Refusal) → printed (room_verdict (report_text tally) (length text)) (report_text tally) ≡ Err r → ⊥
   unfolding printed
-  report_prints r e = let z : print.Length (length (report_text tally)) ≡ print.Refused r = rw passes at e in let z : ◌≡◌ {A = ℕ} 0 1 = cc in omega arith
+  report_prints r e = let z : Ok (length (report_text tally)) ≡ Err r = rw passes at e in let z : ◌≡◌ {A = ℕ} 0 1 = cc in omega arith

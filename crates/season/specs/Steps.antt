@@ -1,8 +1,8 @@
 -- What the season's calls give for any tally: the next log, and bytes that come in pieces (02's Req 12). Assumes nothing.
 use Rattle.std.specs.Prelude.{Bool, List, [], ◌∷◌, ◌++◌, ℕ, leb, ltb, length}
+use Rattle.base.specs.declared.reasons.Reason.TheVariants as reason
 use Rattle.base.specs.Choice.{pick, either, both}
-use Rattle.base.specs.Refusals.{refuse, first, short}
-use Rattle.base.specs.declared.Verdict.{Verdict}
+use Rattle.base.specs.Refusals.{refuse, first, short, Verdict}
 use Rattle.prices.specs.Tariff.{Tariff}
 use Rattle.request_log.specs.Sizes.{log_room}
 use Rattle.request_log.specs.Fields.{total_length}
@@ -52,4 +52,4 @@ finished t g = pick (empty g.held) g.tally (stepped t g.tally g.held)
 
 -- 32 where more is said to be held than an unfinished log can have; 31 for the room
 unfoldable pub feed_verdict : ℕ → ℕ → Verdict
-feed_verdict held room = first (refuse 32 0 (leb log_room held) ∷ short log_room room ∷ [])
+feed_verdict held room = first (refuse reason.BrokenState 0 (leb log_room held) ∷ short log_room room ∷ [])

@@ -1,13 +1,26 @@
 -- The tally of the logs met (02's Req 12). Assumes nothing.
-use Rattle.std.specs.Prelude.{Bool, true, false, not, List, [], ◌∷◌, ℕ, suc, ◌*◌, ltb, eqb, length}
+use Rattle.std.specs.Prelude.{Bool, true, false, not, List, [], ◌∷◌, ℕ, suc, ◌*◌, ltb, eqb, length, Result, Ok, Err}
+use Rattle.base.specs.declared.Refusal.{Refusal}
+use Rattle.base.specs.Refusals.{Verdict}
 use Rattle.base.specs.Choice.{pick, either, both}
 use Rattle.base.specs.Lists.{build}
-use Rattle.base.specs.declared.Verdict.{Verdict}
-use Rattle.base.specs.declared.Verdict.TheVariants.{Passed, Refused}
 use Rattle.model.specs.Sums.{total}
-use Rattle.season.specs.declared.Met.{Met}
+use Rattle.season.specs.declared.bills.Bill.{Bill}
 use Rattle.season.specs.declared.Worst.{Worst}
 use Rattle.season.specs.declared.Tally.{Tally}
+use Rattle.base.specs.Reasons.{number}
+
+-- one log: how it was answered, how many requests it has, its least and its running cost; zeros of a refused one
+pub record Met : Type 0 where
+  pub verdict : Verdict
+  pub requests : ℕ
+  pub least : ℕ
+  pub running : ℕ
+
+-- a log as the code has it: what is billed of an accepted one, or why it is refused
+unfoldable pub met_of : Result Bill Refusal → Met
+met_of (Ok b) = record { verdict = Ok tt; requests = b.requests; least = b.least; running = b.running }
+met_of (Err r) = record { verdict = Err r; requests = 0; least = 0; running = 0 }
 
 -- refusals are counted by their numbers, all below 46
 abbrev pub numbers : ℕ
@@ -19,17 +32,17 @@ one_if b = pick b 1 0
 
 -- the log is accepted; it is refused by a number
 unfoldable pub accepts : Verdict → Bool
-accepts Passed = true
-accepts (Refused r) = false
+accepts (Ok _) = true
+accepts (Err r) = false
 
 unfoldable pub refuses : ℕ → Verdict → Bool
-refuses n Passed = false
-refuses n (Refused r) = eqb n r.number
+refuses n (Ok _) = false
+refuses n (Err r) = eqb n (number r.reason)
 
 -- a log refused by 1 to 9 or by 45 ends the report
 unfoldable pub ends : Verdict → Bool
-ends Passed = false
-ends (Refused r) = either (ltb r.number 10) (eqb r.number 45)
+ends (Ok _) = false
+ends (Err r) = either (ltb (number r.reason) 10) (eqb (number r.reason) 45)
 
 -- ---- the worst log
 

@@ -1,16 +1,16 @@
 -- The tally of one log more, how large a tally's numbers are, and how they hang together.
-use Rattle.std.specs.Prelude.{Bool, true, false, List, [], ◌∷◌, ◌++◌, ◌⊎◌, ◌≢◌, ◌≡◌, refl, ℕ, zero, suc, ◌+◌, ◌-◌, ◌*◌, ◌^◌, ◌≤◌, ◌<◌, ltb, eqb, length, get_or}
+use Rattle.std.specs.Prelude.{Bool, true, false, List, [], ◌∷◌, ◌++◌, ◌⊎◌, ◌≢◌, ◌≡◌, refl, ℕ, zero, suc, ◌+◌, ◌-◌, ◌*◌, ◌^◌, ◌≤◌, ◌<◌, ltb, eqb, length, get_or, Ok, Err}
+use Rattle.base.specs.Refusals.{Verdict}
 use Rattle.std.proofs.Common.{inl, inr, sym, ap, ◌∙◌, mul-le-mul, arith, length-append, lt-ltb, le-ltb, eq-eqb, ne_eqb}
 use Rattle.base.specs.Choice.{either, le_or_lt, same_or_not}
 use Rattle.base.specs.Lists.{build, build_at, build_same}
-use Rattle.base.specs.declared.Verdict.{Verdict}
-use Rattle.base.specs.declared.Verdict.TheVariants.{Passed, Refused}
 use Rattle.model.specs.Sums.{total}
 use Rattle.model.proofs.SumLaws.{total_append}
-use Rattle.season.specs.declared.Met.{Met}
+use Rattle.season.specs.Tallies.{Met}
 use Rattle.season.specs.declared.Worst.{Worst}
 use Rattle.season.specs.Tallies.{numbers, one_if, accepts, refuses, ends, no_worst, worse, worst_of, ended, tally_of}
 use Rattle.season.specs.Counting.{summed, fresh, counted}
+use Rattle.base.specs.Reasons.{number}
 
 -- ---- what holds of each log of a list
 
@@ -27,8 +27,8 @@ Small = Each SmallLog
 
 -- a refusal has one of the numbers counted
 abbrev pub NumberedVerdict : Verdict → Type 0
-NumberedVerdict Passed = Unit {0}
-NumberedVerdict (Refused r) = r.number < numbers
+NumberedVerdict (Ok _) = Unit {0}
+NumberedVerdict (Err r) = number r.reason < numbers
 
 abbrev pub Numbered : List Met → Type 0
 Numbered = Each (λ m. NumberedVerdict m.verdict)
@@ -216,8 +216,8 @@ total_one (suc n) k =
 -- each log is counted once
 counted_once : (v : Verdict) → NumberedVerdict v → one_if (accepts v) + total (λ c. c) (build numbers (λ n. one_if (refuses n v))) ≡ 1
 unfolding accepts refuses
-counted_once Passed p = rw (total_none numbers)
-counted_once (Refused r) p = rw (total_one numbers r.number, lt-ltb r.number numbers p)
+counted_once (Ok _) p = rw (total_none numbers)
+counted_once (Err r) p = rw (total_one numbers (number r.reason), lt-ltb (number r.reason) numbers p)
 
 pub all_counted : (ms : List Met) → Numbered ms → (tally_of ms).accepted + total (λ c. c) (tally_of ms).refused ≡ (tally_of ms).logs
 unfolding tally_of total

@@ -1,5 +1,6 @@
 -- The bytes of an input, one after the other, give the tally of the logs that the whole input is made of.
-use Rattle.std.specs.Prelude.{Bool, false, ◌⊎◌, ◌↔◌, ◌≡◌, leb, ltb, length, drop}
+use Rattle.std.specs.Prelude.{Bool, false, ◌⊎◌, ◌↔◌, ◌≡◌, leb, ltb, length, drop, Ok, Err}
+use Rattle.base.specs.Refusals.{Verdict}
 use Rattle.std.proofs.Math.Bool.{true}
 use mathlib.Core.List.{List, [], ◌∷◌, ◌++◌, append_assoc, append-nil}
 use Rattle.std.proofs.Common.{inl, inr, sym, ◌∙◌, take-append-drop, take_all, length-take-le}
@@ -10,14 +11,12 @@ use Rattle.std.proofs.Math.ListN.{take, length-append}
 use borrow.Author.Tests.{lt-ltb, le-ltb, lt-leb, le-leb, ne_eqb}
 use Rattle.base.specs.Choice.{pick, both, le_or_lt}
 use Rattle.base.specs.declared.Refusal.{Refusal}
-use Rattle.base.specs.declared.Verdict.{Verdict}
-use Rattle.base.specs.declared.Verdict.TheVariants.{Passed, Refused}
 use Rattle.prices.specs.Tariff.{Tariff}
 use Rattle.request_log.specs.Fields.{total_length, length_for}
 use Rattle.request_log.specs.Conditions.{Accepted, head_verdict, verdict_of}
 use Rattle.request_log.specs.HeadLaws.{Headed, headed, nine, head_refused, head_number, length_refused, late_refused}
 use Rattle.live.specs.Live.{running_bill}
-use Rattle.season.specs.declared.Met.{Met}
+use Rattle.season.specs.Tallies.{Met}
 use Rattle.season.specs.declared.Tally.{Tally}
 use Rattle.season.specs.Tallies.{accepts, ends, ended, tally_of}
 use Rattle.season.specs.TallyLaws.{SmallLog, Small, small_one, small_append, fresh_is, counted_next, ended_append}
@@ -25,6 +24,7 @@ use Rattle.season.specs.Met.{most_logs, least_bill, met_as, looked_at, one_too_m
 use Rattle.season.specs.Counting.{fresh, counted}
 use Rattle.season.specs.Steps.{Gathered, gathered, full, unfinished, stepped, with_byte, with_bytes, finished}
 use Rattle.season.specs.Needs.{needed, needed_more, total_front, head_front, short_of_header, short_of_total, is_unfinished, settled, together}
+use Rattle.base.specs.Reasons.{number}
 
 -- two pieces are fed as one
 pub with_both : (t : Tariff) (g : Gathered) (xs ys : List ℕ) → with_bytes t g (xs ++ ys) ≡ with_bytes t (with_bytes t g xs) ys
@@ -52,13 +52,13 @@ over_stays t tally [] e = refl
 over_stays t tally (b ∷ s) e = ap (λ (g : Gathered). with_bytes t g s) (over_byte t tally b e) ∙ over_stays t tally s e
 
 -- a log that is no longer unfinished
-finished_log : (t : Tariff) (s : List ℕ) → 40 ≤ length s → (head_verdict t s ≡ Passed → total_length s ≤ length s) → unfinished t s ≡ false
+finished_log : (t : Tariff) (s : List ℕ) → 40 ≤ length s → (head_verdict t s ≡ Ok tt → total_length s ≤ length s) → unfinished t s ≡ false
 unfolding unfinished accepts
 finished_log t s h f = rw (le-ltb _ _ h) (go (head_verdict t s) refl)
   where
     go : (v : Verdict) → head_verdict t s ≡ v → both (accepts (head_verdict t s)) (ltb (length s) (total_length s)) ≡ false
-    go Passed e = rw (e, le-ltb _ _ (f e))
-    go (Refused r) e = rw e
+    go (Ok _) e = rw (e, le-ltb _ _ (f e))
+    go (Err r) e = rw e
 
 module _ (t : Tariff) (tally : Tally) (open' : full tally ≡ false) where
   -- up to a header, or up to what it says, bytes are gathered
@@ -66,7 +66,7 @@ module _ (t : Tariff) (tally : Tally) (open' : full tally ≡ false) where
   unfolding needed
   short_front s h l = together t tally [] s open' h l
 
-  pub log_front : (s : List ℕ) → 40 ≤ length s → head_verdict t s ≡ Passed → length s ≤ total_length s → with_bytes t (gathered tally []) s ≡ settled t tally s
+  pub log_front : (s : List ℕ) → 40 ≤ length s → head_verdict t s ≡ Ok tt → length s ≤ total_length s → with_bytes t (gathered tally []) s ≡ settled t tally s
   unfolding settled
   log_front s h e l = go (le_or_lt (length s) 40)
     where
@@ -86,7 +86,7 @@ module _ (t : Tariff) (tally : Tally) (open' : full tally ≡ false) where
       go (inl m) = short_front s (omega arith) m
       go (inr m) =
           let q : total_length front ≡ total_length s = sym (total_front front rest (omega (arith, long))) ∙ ap total_length parts in
-          let p : head_verdict t front ≡ Passed = sym (head_front t front rest (omega (arith, long))) ∙ ap (head_verdict t) parts ∙ e in
+          let p : head_verdict t front ≡ (Ok tt) = sym (head_front t front rest (omega (arith, long))) ∙ ap (head_verdict t) parts ∙ e in
           let u : unfinished t front ≡ true = is_unfinished t front (short_of_total (omega (arith, long)) p (omega (arith, long, q))) in
           let n : length front + length rest ≡ length s = sym (length-append front rest) ∙ ap length parts in
           let d : needed t front ≡ total_length front - length front = needed_more t front (omega (arith, long)) u in
@@ -97,14 +97,14 @@ module _ (t : Tariff) (tally : Tally) (open' : full tally ≡ false) where
           ∙ ap (settled t tally) parts
 
 -- a log that ends the report, and one that does not
-ends_by : (v : Verdict) (r : Refusal) → v ≡ Refused r → r.number < 10 → ends v ≡ true
+ends_by : (v : Verdict) (r : Refusal) → v ≡ Err r → number r.reason < 10 → ends v ≡ true
 unfolding ends
 ends_by v r e h = rw (e, lt-ltb _ _ h)
 
-goes_on : (v : Verdict) → ((r : Refusal) → v ≡ Refused r → (10 ≤ r.number) × (r.number ≤ 13)) → ends v ≡ false
+goes_on : (v : Verdict) → ((r : Refusal) → v ≡ Err r → (10 ≤ number r.reason) × (number r.reason ≤ 13)) → ends v ≡ false
 unfolding ends
-goes_on Passed h = refl
-goes_on (Refused r) h = let (l, m) = h r refl in rw (le-ltb _ _ l, ne_eqb r.number 45 (λ z. omega arith))
+goes_on (Ok _) h = refl
+goes_on (Err r) h = let (l, m) = h r refl in rw (le-ltb _ _ l, ne_eqb (number r.reason) 45 (λ z. omega arith))
 
 -- what is met of a log is met by its verdict
 verdict_met : (t : Tariff) (s : List ℕ) → (looked_at t s).verdict ≡ verdict_of t s
@@ -112,10 +112,10 @@ unfolding looked_at met_as
 verdict_met t s = go (verdict_of t s)
   where
     go : (v : Verdict) → (met_as v t s).verdict ≡ v
-    go Passed = refl
-    go (Refused r) = refl
+    go (Ok _) = refl
+    go (Err r) = refl
 
-refused_met : (t : Tariff) (s u : List ℕ) (r : Refusal) → verdict_of t s ≡ Refused r → verdict_of t u ≡ Refused r → looked_at t s ≡ looked_at t u
+refused_met : (t : Tariff) (s u : List ℕ) (r : Refusal) → verdict_of t s ≡ Err r → verdict_of t u ≡ Err r → looked_at t s ≡ looked_at t u
 unfolding looked_at met_as
 refused_met t s u r e f = rw (e, f)
 
@@ -134,7 +134,7 @@ unfolding settled
 settled_done t tally s e = rw e
 
 -- a verdict is one of two
-passed_refused : {r : Refusal} → Passed ≡ Refused r → ⊥
+passed_refused : {r : Refusal} → ◌≡◌ {A = Verdict} (Ok tt) (Err r) → ⊥
 passed_refused e = let z : ◌≡◌ {A = ℕ} 0 1 = cc in omega arith
 
 -- the length of the log at the front
@@ -171,7 +171,7 @@ front_head t s h =
     sym (head_front t front (drop (log_length s) s) long) ∙ ap (head_verdict t) parts
 
 -- where that passes, the log is refused by 9 exactly if fewer bytes are left than it says
-pub cut_short : (t : Tariff) (s : List ℕ) → head_verdict t s ≡ Passed → (verdict_of t (take (log_length s) s) ≡ Refused nine) ↔ (length s < total_length s)
+pub cut_short : (t : Tariff) (s : List ℕ) → head_verdict t s ≡ Ok tt → (verdict_of t (take (log_length s) s) ≡ Err nine) ↔ (length s < total_length s)
 cut_short t s e = (fewer (le_or_lt (total_length s) (length s)), none_left)
   where
     front : List ℕ
@@ -180,7 +180,7 @@ cut_short t s e = (fewer (le_or_lt (total_length s) (length s)), none_left)
     is : log_length s ≡ total_length s
     is = length_is s (total_least (headed t s e))
 
-    fewer : (total_length s ≤ length s) ⊎ (length s < total_length s) → verdict_of t front ≡ Refused nine → length s < total_length s
+    fewer : (total_length s ≤ length s) ⊎ (length s < total_length s) → verdict_of t front ≡ Err nine → length s < total_length s
     fewer (inr h) v = h
     fewer (inl h) v =
         let h40 = (headed t s e).long in
@@ -189,7 +189,7 @@ cut_short t s e = (fewer (le_or_lt (total_length s) (length s)), none_left)
         let q : total_length front ≡ total_length s = sym (total_front front (drop (log_length s) s) (omega (arith, long, least_length s))) ∙ ap total_length parts in
         absurd (omega (arith, (late_refused t front nine (front_head t s h40 ∙ e) (omega (arith, long, is, q)) v).0))
 
-    none_left : length s < total_length s → verdict_of t front ≡ Refused nine
+    none_left : length s < total_length s → verdict_of t front ≡ Err nine
     none_left h = ap (verdict_of t) (take_all (log_length s) s (omega (arith, is))) ∙ length_refused t s e (λ z. omega arith)
 
 -- the logs met: none in no bytes; where the first ends the report, and where it does not
@@ -243,14 +243,14 @@ module _ (t : Tariff) (ms : List Met) (e : length ms ≡ most_logs) (g : ended m
       ∙ after_over t all_counted s over
 
 -- by a table whose prices leave every log's costs below 32 bits
-module _ (t : Tariff) (judged : t.judged ≡ Passed) (fits : (log : List ℕ) → Accepted t log → (least_bill t log < 2 ^ 32) × (running_bill t log < 2 ^ 32)) where
+module _ (t : Tariff) (judged : t.judged ≡ Ok tt) (fits : (log : List ℕ) → Accepted t log → (least_bill t log < 2 ^ 32) × (running_bill t log < 2 ^ 32)) where
   small_met : (s : List ℕ) → SmallLog (looked_at t s)
   unfolding looked_at met_as Accepted
   small_met s = go (verdict_of t s) refl
     where
       go : (v : Verdict) → verdict_of t s ≡ v → SmallLog (met_as v t s)
-      go Passed e = fits s e
-      go (Refused r) e = (omega arith, omega arith)
+      go (Ok _) e = fits s e
+      go (Err r) e = (omega arith, omega arith)
 
   -- the tally of some logs, none of which ends the report, and of one more
   pub record SoFar (ms : List Met) (k : ℕ) : Type 0 where
@@ -328,22 +328,22 @@ module _ (t : Tariff) (judged : t.judged ≡ Passed) (fits : (log : List ℕ) �
       ending m w e n = w ∙ ap (λ (x : Met). tally_of (ms ++ (x ∷ []))) e ∙ ap (λ (x : List Met). tally_of (ms ++ x)) (sym (met_last t k b s n))
 
       -- the input ends with it
-      input_ends : (r : Refusal) → with_bytes t (gathered tally []) rest ≡ gathered tally rest → front ≡ rest → verdict_of t rest ≡ Refused r → r.number < 10 → Goal
+      input_ends : (r : Refusal) → with_bytes t (gathered tally []) rest ≡ gathered tally rest → front ≡ rest → verdict_of t rest ≡ Err r → number r.reason < 10 → Goal
       input_ends r w e v n =
           ending (looked_at t rest) (ap (finished t) w ∙ step_is ms k f rest) (ap (looked_at t) (sym e)) (ends_by (verdict_of t front) r (ap (verdict_of t) e ∙ v) n)
 
       go : (40 ≤ length rest) ⊎ (length rest < 40) → (v : Verdict) → head_verdict t rest ≡ v → Goal
-      go (inr h) Passed e = absurd (omega (arith, (headed t rest e).long))
-      go (inr h) (Refused r) e =
+      go (inr h) (Ok _) e = absurd (omega (arith, (headed t rest e).long))
+      go (inr h) (Err r) e =
           input_ends r
           (short_front t tally (not_full ms k f) rest (omega arith) (omega arith) ∙ settled_waits t tally rest (is_unfinished t rest (short_of_header h)))
           (take_all size rest (omega (arith, least_length rest))) (head_refused t rest r e) (omega (arith, (head_number t rest r judged e).1))
-      go (inl h) (Refused r) e =
+      go (inl h) (Err r) e =
           let head = take 40 rest in
           let long : length head ≡ 40 = length-take-le 40 rest h in
           let parts : head ++ drop 40 rest ≡ rest = take-append-drop 40 rest in
-          let v : head_verdict t head ≡ Refused r = sym (head_front t head (drop 40 rest) (omega (arith, long))) ∙ ap (head_verdict t) parts ∙ e in
-          let w : head_verdict t front ≡ Refused r = front_head t rest h ∙ e in
+          let v : head_verdict t head ≡ Err r = sym (head_front t head (drop 40 rest) (omega (arith, long))) ∙ ap (head_verdict t) parts ∙ e in
+          let w : head_verdict t front ≡ Err r = front_head t rest h ∙ e in
           let small = head_number t rest r judged e in
           let over = last_over ms k f head (ends_by (verdict_of t head) r (head_refused t head r v) (omega (arith, small.1))) in
           let fed : with_bytes t (gathered tally []) head ≡ gathered (tally_of (ms ++ (looked_at t head ∷ []))) [] =
@@ -356,7 +356,7 @@ module _ (t : Tariff) (judged : t.judged ≡ Passed) (fits : (log : List ℕ) �
           ∙ after_over t (tally_of (ms ++ (looked_at t head ∷ []))) (drop 40 rest) over)
           (refused_met t head front r (head_refused t head r v) (head_refused t front r w))
           (ends_by (verdict_of t front) r (head_refused t front r w) (omega (arith, small.1)))
-      go (inl h) Passed e = whole (headed t rest e) (le_or_lt (total_length rest) (length rest))
+      go (inl h) (Ok _) e = whole (headed t rest e) (le_or_lt (total_length rest) (length rest))
         where
           whole : Headed rest → (total_length rest ≤ length rest) ⊎ (length rest < total_length rest) → Goal
           whole d (inr l) =
@@ -369,7 +369,7 @@ module _ (t : Tariff) (judged : t.judged ≡ Passed) (fits : (log : List ℕ) �
               let is : size ≡ total_length rest = length_is rest least in
               let long : length front ≡ size = length-take-le size rest (omega (arith, is)) in
               let parts : front ++ drop size rest ≡ rest = take-append-drop size rest in
-              let v : head_verdict t front ≡ Passed = front_head t rest h ∙ e in
+              let v : head_verdict t front ≡ (Ok tt) = front_head t rest h ∙ e in
               let q : total_length front ≡ total_length rest = sym (total_front front (drop size rest) (omega (arith, long, is, least))) ∙ ap total_length parts in
               let on : ends (verdict_of t front) ≡ false = goes_on (verdict_of t front) (λ r z. late_refused t front r v (omega (arith, long, is, q)) z) in
               let fed : with_bytes t (gathered tally []) front ≡ gathered (tally_of (ms ++ (looked_at t front ∷ []))) [] =

@@ -4,7 +4,7 @@ use Rattle.std.proofs.Common.{append-nil, append_assoc, inl, inr, sym, ap, â—Œâˆ
 use Rattle.std.proofs.Math.ListN.{get_or-append}
 use Rattle.std.proofs.Math.Seq.{get_or-append_seam}
 use Rattle.base.specs.Choice.{le_or_lt, same_or_not}
-use Rattle.season.specs.declared.Met.{Met}
+use Rattle.season.specs.Tallies.{Met}
 use Rattle.season.specs.declared.Worst.{Worst}
 use Rattle.season.specs.Tallies.{no_worst, larger, worse, worst_of, tally_of}
 use Rattle.season.specs.Claims.{no_log, log_at, NamesWorst}

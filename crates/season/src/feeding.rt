@@ -1,67 +1,46 @@
 // The input in pieces: the bytes of a log that is not whole yet are held in a room that is lent.
-ghost use Rattle.std.specs.Prelude.{◌≡◌, ◌≤◌, ◌<◌, ltb, length, take};
-ghost use Rattle.base.specs.Choice.{pick};
+ghost use Rattle.std.specs.Prelude.{◌≡◌, ◌≤◌, ◌<◌, length, take};
 ghost use Rattle.prices.specs.Tariff.{built_in};
 ghost use Rattle.request_log.specs.Sizes.{log_room};
 ghost use Rattle.request_log.specs.Conditions.{head_verdict};
 ghost use Rattle.season.specs.Tallies.{accepts};
-ghost use Rattle.season.specs.Steps.{gathered, full, unfinished, with_bytes, finished, feed_verdict};
+ghost use Rattle.season.specs.Steps.{gathered, unfinished, with_bytes, finished, feed_verdict};
 ghost use Rattle.season.specs.Answers.{gathered_in, fed, room_left};
 ghost use Rattle.season.specs.Needs.{needed};
 
-use crate::steps::step;
-use crate::{Fed, MOST_LOGS, Season, Tally};
-use base::Verdict;
-use base::bytes::{at32, clear8, copy};
-use base::refusals::or_else;
-use base::widths::{size_from_u32, size_from_u64, u64_from_size};
-use prices::built_in;
+use crate::steps::{is_full, step};
+use crate::{Fed, Season, Tally};
+use base::bytes::{at32, clear, copy};
+use base::refusals::refuse_if;
+use base::{Reason, Verdict};
+use prices::Tariff;
 use request_log::{LOG_ROOM, head_fault};
 
 // What is left of a piece goes on with this tally and so many bytes held; so many bytes of the piece were taken.
-#[derive(Clone, Copy)]
+#[derive(Clone, Copy, Debug, PartialEq, Eq)]
 pub struct Taken {
     pub tally: Tally,
     pub held: usize,
     pub used: usize,
 }
 
-// No further log is looked at.
-fn is_full(tally: Tally) -> bool
-    ensures { result ≡ full tally }
-{
-    if tally.over {
-        return true;
-    }
-    MOST_LOGS <= tally.logs
-}
-
 // A header passes.
+#[tactic(auto, unfolding(crate::specs::Tallies::accepts))]
 fn heads(log: &[u8]) -> bool
     ensures { result ≡ accepts (head_verdict built_in log.now) }
 {
-    let prices = built_in();
-    let v = head_fault(Verdict::Passed, &prices, log);
-    match v {
-        Verdict::Passed => true,
-        Verdict::Refused(_) => false,
-    }
+    head_fault(Tariff::built_in(), log).is_ok()
 }
 
 // Bytes that are not all of a log yet.
 fn is_unfinished(log: &[u8]) -> bool
     ensures { result ≡ unfinished built_in log.now }
 {
-    if log.len() < 40 {
-        return true;
-    }
-    if heads(log) {
-        return log.len() < size_from_u32(at32(log, 16));
-    }
-    false
+    log.len() < 40 || heads(log) && log.len() < at32(log, 16) as usize
 }
 
 // How many bytes more may be taken before what is held is looked at again.
+#[tactic(auto, using(crate::specs::Needs::total_more), unfolding(crate::specs::Needs::needed, request_log::specs::Fields::total_length))]
 fn need(log: &[u8]) -> usize
     ensures { result ≡ needed built_in log.now }
 {
@@ -70,19 +49,9 @@ fn need(log: &[u8]) -> usize
         return 40 - n;
     }
     if is_unfinished(log) {
-        return size_from_u32(at32(log, 16)) - n;
+        return (at32(log, 16) as usize) - n;
     }
     1
-}
-
-// The lesser of two sizes.
-fn lesser(a: usize, b: usize) -> usize
-    ensures { result ≡ pick (ltb b a) b a }
-{
-    if b < a {
-        return b;
-    }
-    a
 }
 
 // Bytes from the front of a piece, as many as the log that is held needs: that log is counted if it is whole then.
@@ -98,7 +67,7 @@ fn take_in(tally: Tally, held: usize, room: &mut [u8], piece: &[u8]) -> Taken
             used: piece.len(),
         };
     }
-    let n = lesser(need(&room[..held]), piece.len());
+    let n = need(&room[..held]).min(piece.len());
     copy(room, held, &piece[..n]);
     let end = held + n;
     if is_unfinished(&room[..end]) {
@@ -116,12 +85,13 @@ fn take_in(tally: Tally, held: usize, room: &mut [u8], piece: &[u8]) -> Taken
 }
 
 // 32 where more is said to be held than an unfinished log can have, 31 for the room.
+#[tactic(auto, using(base::specs::RefusalLaws::first_after_ok, base::specs::RefusalLaws::first_after_err), unfolding(crate::specs::Steps::feed_verdict))]
 fn feed_fault(held: u64, room: usize) -> Verdict
     ensures { result ≡ feed_verdict held room }
 {
-    let most = u64_from_size(LOG_ROOM);
-    let v = or_else(Verdict::Passed, most <= held, 32, 0);
-    or_else(v, room < LOG_ROOM, 31, most)
+    let most = LOG_ROOM as u64;
+    refuse_if(most <= held, Reason::BrokenState, 0)?;
+    refuse_if(room < LOG_ROOM, Reason::ShortOutput, most)
 }
 
 // All bytes of a piece, one log after the other.
@@ -152,36 +122,31 @@ pub fn feed(season: Season, room: &mut [u8], piece: &[u8]) -> Fed
     ensures value { result ≡ fed built_in season room.old piece.now }
     ensures room_after { room.new ≡ room_left built_in season room.old piece.now }
 {
-    let v = feed_fault(season.held, room.len());
-    if let Verdict::Refused(r) = v {
+    if let Err(r) = feed_fault(season.held, room.len()) {
         return Fed {
             season,
-            verdict: Verdict::Refused(r),
+            verdict: Err(r),
         };
     }
-    let tally = season.tally;
-    let t = take_all(tally, size_from_u64(season.held), room, piece);
-    let after = t.tally;
-    let held = t.held;
-    clear8(room, held);
-    let next = Season {
-        tally: after,
-        held: u64_from_size(held),
-    };
+    let t = take_all(season.tally, season.held as usize, room, piece);
+    clear(room, t.held);
     Fed {
-        season: next,
-        verdict: Verdict::Passed,
+        season: Season {
+            tally: t.tally,
+            held: t.held as u64,
+        },
+        verdict: Ok(()),
     }
 }
 
 // The end of the input: what is held is the last log.
+#[tactic(auto, using(crate::specs::FeedLaws::finish_none, crate::specs::FeedLaws::finish_some))]
 pub fn finish(season: Season, room: &[u8]) -> Tally
     ensures { result ≡ finished built_in (gathered_in season room.now) }
 {
-    let tally = season.tally;
-    let held = lesser(size_from_u64(season.held), room.len());
+    let held = (season.held as usize).min(room.len());
     if held == 0 {
-        return tally;
+        return season.tally;
     }
-    step(tally, &room[..held])
+    step(season.tally, &room[..held])
 }

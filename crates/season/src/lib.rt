@@ -9,19 +9,11 @@ mod steps;
 use base::Verdict;
 pub use feeding::{feed, finish};
 pub use lines::summary;
+use request_log::LOG_ROOM;
 pub use steps::{begin, step};
 
-// One log: how it was answered, how many requests it has, its least and its running cost; zeros of a refused one.
-#[derive(Clone, Copy)]
-pub struct Met {
-    pub verdict: Verdict,
-    pub requests: u16,
-    pub least: u32,
-    pub running: u32,
-}
-
 // The log with the largest ratio of running to least cost: its place in the input from 1, and both costs; the place is 0 where there is none.
-#[derive(Clone, Copy)]
+#[derive(Clone, Copy, Debug, PartialEq, Eq)]
 pub struct Worst {
     pub place: u64,
     pub running: u32,
@@ -30,7 +22,7 @@ pub struct Worst {
 
 // How many logs were met, accepted, and refused by each number; the totals of least and running cost over the accepted ones; the worst of
 // them; and whether the report has ended.
-#[derive(Clone, Copy)]
+#[derive(Clone, Copy, Debug, PartialEq, Eq)]
 pub struct Tally {
     pub logs: u64,
     pub accepted: u64,
@@ -42,14 +34,14 @@ pub struct Tally {
 }
 
 // The tally of the logs so far, and how many bytes of the next log are held in the room that is lent with it.
-#[derive(Clone, Copy)]
+#[derive(Clone, Copy, Debug, PartialEq, Eq)]
 pub struct Season {
     pub tally: Tally,
     pub held: u64,
 }
 
 // The season after a piece, or as it was where the piece was refused.
-#[derive(Clone, Copy)]
+#[derive(Clone, Copy, Debug, PartialEq, Eq)]
 pub struct Fed {
     pub season: Season,
     pub verdict: Verdict,
@@ -59,7 +51,7 @@ pub struct Fed {
 pub const MOST_LOGS: u64 = 4096;
 
 // No report goes on after so many bytes: the logs that are looked at, and one byte more.
-pub const MOST_BYTES: u64 = 4096 * 12328 + 1;
+pub const MOST_BYTES: u64 = MOST_LOGS * LOG_ROOM as u64 + 1;
 
 // Refusals are counted by their numbers, all below this.
 pub const NUMBERS: usize = 46;

@@ -1,145 +1,92 @@
 // One log after the other into a tally.
-ghost use Rattle.std.specs.Prelude.{◌≡◌, ◌*◌, ◌^◌, ◌<◌, ltb, eqb, get_or};
+ghost use Rattle.std.specs.Prelude.{◌≡◌, ltb, eqb, get_or, Ok, Err};
 ghost use Rattle.base.specs.Choice.{either};
 ghost use Rattle.base.specs.Lists.{build};
-ghost use Rattle.base.specs.declared.Verdict.TheVariants.{Refused};
 ghost use Rattle.prices.specs.Tariff.{built_in};
-ghost use Rattle.season.specs.Met.{one_too_many};
-ghost use Rattle.season.specs.Tallies.{numbers, one_if, refuses, larger, worse};
+ghost use Rattle.season.specs.Tallies.{numbers, one_if, refuses, larger, worse, met_of};
 ghost use Rattle.season.specs.Counting.{summed, fresh, counted};
-ghost use Rattle.season.specs.Steps.{stepped};
+ghost use Rattle.season.specs.Steps.{full, stepped};
 
-use crate::bills::look;
-use crate::{MOST_LOGS, Met, NUMBERS, Tally, Worst};
-use base::widths::{size_from_u16, u16_from_u8, u64_from_u32};
-use base::{Refusal, Verdict};
-
-// The largest number of 64 bits.
-const MOST: u64 = 18446744073709551615;
-
-// A sum, or the largest number where it is more.
-fn add(a: u64, b: u64) -> u64
-    ensures { result ≡ summed a b }
-{
-    if MOST - b < a {
-        return MOST;
-    }
-    a + b
-}
+use crate::bills::{Bill, look};
+use crate::{MOST_LOGS, NUMBERS, Tally, Worst};
+use base::{Reason, Refusal};
 
 // One more log refused by a number.
 fn add_refused(refused: [u64; NUMBERS], refusal: Refusal) -> [u64; NUMBERS]
-    ensures { result ≡ build numbers (λ n. summed (get_or refused n 0) (one_if (refuses n (Refused refusal)))) }
+    ensures { result ≡ build numbers (λ n. summed (get_or refused n 0) (one_if (refuses n (Err refusal)))) }
 {
     let mut counts = refused;
-    let k = size_from_u16(u16_from_u8(refusal.number));
+    let k = usize::from(refusal.reason.number());
     if k < NUMBERS {
-        counts[k] = add(counts[k], 1);
+        counts[k] = counts[k].saturating_add(1);
     }
     counts
 }
 
-// A product that has 64 bits.
-fn product(a: u64, b: u64) -> u64
-    requires { a * b < 2 ^ 64 }
-    ensures { result ≡ a * b }
-{
-    a * b
-}
-
 // Whether a log's ratio is larger than the worst one's: the fractions are compared by products.
-fn is_larger(worst: Worst, met: Met) -> bool
-    ensures { result ≡ larger worst met }
+#[tactic(auto, using(crate::specs::TallyLaws::product_fits), unfolding(crate::specs::Tallies::larger, crate::specs::Tallies::met_of))]
+fn is_larger(worst: Worst, bill: Bill) -> bool
+    ensures { result ≡ larger worst (met_of (Ok bill)) }
 {
-    if worst.place == 0 {
-        return true;
-    }
-    let so_far = product(u64_from_u32(worst.running), u64_from_u32(met.least));
-    let now = product(u64_from_u32(met.running), u64_from_u32(worst.least));
-    so_far < now
+    worst.place == 0
+        || u64::from(worst.running) * u64::from(bill.least)
+            < u64::from(bill.running) * u64::from(worst.least)
 }
 
 // The worst so far, or the log at a place if its ratio is larger.
-fn worse_of(worst: Worst, place: u64, met: Met) -> Worst
-    ensures { result ≡ worse worst place met }
+#[tactic(auto, unfolding(crate::specs::Tallies::worse, crate::specs::Tallies::met_of))]
+fn worse_of(worst: Worst, place: u64, bill: Bill) -> Worst
+    ensures { result ≡ worse worst place (met_of (Ok bill)) }
 {
-    if met.requests == 0 {
+    if bill.requests == 0 || !is_larger(worst, bill) {
         return worst;
     }
-    if is_larger(worst, met) {
-        return Worst {
-            place,
-            running: met.running,
-            least: met.least,
-        };
+    Worst {
+        place,
+        running: bill.running,
+        least: bill.least,
     }
-    worst
 }
 
 // A refusal by 1 to 9 or by 45 ends the report.
 fn is_last(number: u8) -> bool
     ensures { result ≡ either (ltb number 10) (eqb number 45) }
 {
-    if number < 10 {
-        return true;
-    }
-    number == 45
+    matches!(number, 0..=9 | 45)
 }
 
 // A tally with one log more.
-fn count(tally: Tally, met: Met) -> Tally
-    ensures { result ≡ counted tally met }
+fn count(tally: Tally, met: Result<Bill, Refusal>) -> Tally
+    ensures { result ≡ counted tally (met_of met) }
 {
-    let logs = add(tally.logs, 1);
-    let accepted = tally.accepted;
-    let passed = add(accepted, 1);
-    let refused = tally.refused;
-    let least = add(tally.least, u64_from_u32(met.least));
-    let running = add(tally.running, u64_from_u32(met.running));
-    let before = tally.worst;
-    let worst = worse_of(before, logs, met);
-    let verdict = met.verdict;
-    match verdict {
-        Verdict::Passed => Tally {
+    let logs = tally.logs.saturating_add(1);
+    match met {
+        Ok(bill) => Tally {
             logs,
-            accepted: passed,
-            refused,
-            least,
-            running,
-            worst,
+            accepted: tally.accepted.saturating_add(1),
+            least: tally.least.saturating_add(u64::from(bill.least)),
+            running: tally.running.saturating_add(u64::from(bill.running)),
+            worst: worse_of(tally.worst, logs, bill),
             over: false,
+            ..tally
         },
-        Verdict::Refused(r) => {
-            let more = add_refused(refused, r);
-            Tally {
-                logs,
-                accepted,
-                refused: more,
-                least,
-                running,
-                worst,
-                over: is_last(r.number),
-            }
-        }
+        Err(r) => Tally {
+            logs,
+            refused: add_refused(tally.refused, r),
+            over: is_last(r.reason.number()),
+            ..tally
+        },
     }
 }
 
 // The log after all those that are looked at.
-fn beyond() -> Met
-    ensures { result ≡ one_too_many }
-{
-    Met {
-        verdict: Verdict::Refused(Refusal {
-            number: 45,
-            place: 0,
-        }),
-        requests: 0,
-        least: 0,
-        running: 0,
-    }
-}
+const BEYOND: Refusal = Refusal {
+    reason: Reason::LogCount,
+    place: 0,
+};
 
 // Before any log.
+#[tactic(auto, unfolding(crate::specs::Counting::fresh))]
 pub fn begin() -> Tally
     ensures { result ≡ fresh }
 {
@@ -158,15 +105,23 @@ pub fn begin() -> Tally
     }
 }
 
+// No further log is looked at.
+pub(crate) fn is_full(tally: Tally) -> bool
+    ensures { result ≡ full tally }
+{
+    tally.over || MOST_LOGS <= tally.logs
+}
+
 // The next log. 45 is looked at before the log is; after the end nothing is.
+#[tactic(auto, using(crate::specs::StepLaws::stepped_over, crate::specs::StepLaws::stepped_late, crate::specs::StepLaws::stepped_next))]
 pub fn step(tally: Tally, log: &[u8]) -> Tally
     ensures { result ≡ stepped built_in tally log.now }
 {
     if tally.over {
         return tally;
     }
-    if MOST_LOGS <= tally.logs {
-        return count(tally, beyond());
+    if is_full(tally) {
+        return count(tally, Err(BEYOND));
     }
     count(tally, look(log))
 }

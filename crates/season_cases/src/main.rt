@@ -1,31 +1,13 @@
 // The season in pieces of a length that its input names: the first two bytes, 1 to 12,328. The rest of the input is fed so, and its report printed.
 #![tactic(auto)]
 
-ghost use Rattle.std.specs.Prelude.{◌≡◌, ◌≤◌, length};
-ghost use Rattle.request_log.specs.Sizes.{log_room};
-ghost use Rattle.season.specs.ReportText.{report_room};
+ghost use Rattle.std.specs.Prelude.{◌≤◌};
 
 use base::bytes::at16;
-use base::widths::{size_from_u16, size_from_u64};
 use request_log::LOG_ROOM;
 use season::{MOST_BYTES, REPORT_ROOM, Season, begin, feed, finish, summary};
-use std::io::{Print, Read};
+use std::io::Read;
 use streams::read_full;
-use text::Printed;
-
-// Room for any log.
-fn room() -> [u8; LOG_ROOM]
-    ensures { log_room ≡ length result }
-{
-    [0u8; LOG_ROOM]
-}
-
-// Room for any report.
-fn paper() -> [u8; REPORT_ROOM]
-    ensures { report_room ≡ length result }
-{
-    [0u8; REPORT_ROOM]
-}
 
 // The length of a piece, at least 1 and no more than there is room for.
 fn piece_length<R: Read>(input: &mut R, most: usize) -> usize
@@ -34,14 +16,7 @@ fn piece_length<R: Read>(input: &mut R, most: usize) -> usize
 {
     let mut bytes = [0u8; 2];
     let _ = read_full(input, &mut bytes);
-    let named = size_from_u16(at16(&bytes, 0));
-    if named == 0 {
-        return 1;
-    }
-    if most < named {
-        return most;
-    }
-    named
+    usize::from(at16(&bytes, 0)).clamp(1, most)
 }
 
 // The input in such pieces, up to its end or that of the report. Each but the last has a byte or more.
@@ -50,43 +25,27 @@ fn read_all<R: Read>(input: &mut R, piece: &mut [u8], room: &mut [u8]) -> Season
         tally: begin(),
         held: 0,
     };
-    let mut reads: u64 = 0;
-    while reads < MOST_BYTES {
+    for _ in 0..MOST_BYTES {
         let (n, _) = read_full(input, piece);
         let fed = feed(season, room, &piece[..n]);
         season = fed.season;
-        if n < piece.len() {
+        if n < piece.len() || season.tally.over {
             return season;
         }
-        if season.tally.over {
-            return season;
-        }
-        reads += 1;
     }
     season
 }
 
-// The front of a text. Where it cannot be written nothing more is done.
-fn print(rt: &impl Print, text: &[u8], n: usize) {
-    if n <= text.len() {
-        let _ = rt.write_all(&text[..n]);
-    }
-}
-
-fn show(rt: &impl Print, printed: Printed, text: &[u8]) {
-    match printed {
-        Printed::Length(n) => print(rt, text, size_from_u64(n)),
-        Printed::Refused(_) => print(rt, text, 0),
-    }
-}
-
+// Where the report cannot be written nothing more is done.
 fn main(rt: HostRuntime) {
     let mut stdin = rt.stdin();
-    let mut space = room();
+    let mut space = [0u8; LOG_ROOM];
     let size = piece_length(&mut stdin, LOG_ROOM);
-    let mut held = room();
+    let mut held = [0u8; LOG_ROOM];
     let season = read_all(&mut stdin, &mut space[..size], &mut held);
-    let mut text = paper();
-    let printed = summary(finish(season, &held), &mut text);
-    show(&rt, printed, &text);
+    let mut text = [0u8; REPORT_ROOM];
+    let n = summary(finish(season, &held), &mut text).unwrap_or(0) as usize;
+    if let Some(report) = text.get(..n) {
+        let _ = rt.write_all(report);
+    }
 }

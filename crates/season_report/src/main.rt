@@ -9,11 +9,9 @@ ghost use Rattle.season.specs.Steps.{finished};
 ghost use Rattle.season.specs.Answers.{gathered_in};
 ghost use Rattle.streams.specs.Counts.{IsPrefixLen};
 
-use base::widths::size_from_u64;
 use request_log::LOG_ROOM;
 use season::{MOST_BYTES, REPORT_ROOM, Season, begin, feed, finish, summary};
 use std::io::Read;
-use text::Printed;
 
 // Bytes that one read gives at most: with the room of one log all that is kept of an input.
 const PIECE: usize = 512;
@@ -46,8 +44,7 @@ fn read_all<R: Read>(input: &mut R, room: &mut [u8]) -> Season {
         tally: begin(),
         held: 0,
     };
-    let mut reads: u64 = 0;
-    while reads < MOST_BYTES {
+    for _ in 0..MOST_BYTES {
         let n = read_some(input, &mut piece);
         if n == 0 {
             return season;
@@ -57,7 +54,6 @@ fn read_all<R: Read>(input: &mut R, room: &mut [u8]) -> Season {
         if season.tally.over {
             return season;
         }
-        reads += 1;
     }
     season
 }
@@ -67,10 +63,9 @@ fn answer(season: Season, room: &[u8], text: &mut [u8]) -> usize
     requires { report_room ≤ length text.old }
     ensures { IsPrefixLen result text.new × (take result text.new ≡ report_text (finished built_in (gathered_in season room.now))) }
 {
-    let printed = summary(finish(season, room), text);
-    match printed {
-        Printed::Length(n) => size_from_u64(n),
-        Printed::Refused(_) => 0,
+    match summary(finish(season, room), text) {
+        Ok(n) => n as usize,
+        Err(_) => 0,
     }
 }
 

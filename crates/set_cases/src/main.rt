@@ -3,92 +3,58 @@
 #![tactic(auto)]
 
 use base::sets::{has, nearest};
-use base::widths::{u32_from_u16, u64_from_u16, u64_from_u32};
-use std::io;
 use std::io::Print;
-use std::num::wrapping_add_u64;
+use std::{fmt, io};
 
-fn apart(a: u16, b: u16) -> u16 {
-    if a < b {
-        return b - a;
-    }
-    a - b
-}
-
-// What was found so far: whether any, and the nearest of them.
-#[derive(Drop)]
-struct Found {
-    some: bool,
-    server: u16,
-}
-
-// Server y takes its place where it is a member and nearer.
-fn looked(f: Found, w: u64, t: u16, y: u16) -> Found {
-    if !has(w, y) {
-        return f;
-    }
-    let first = Found {
-        some: true,
-        server: y,
-    };
-    if !f.some {
-        return first;
-    }
-    if apart(y, t) < apart(f.server, t) {
-        return first;
-    }
-    f
-}
-
+// The nearest member, the first of two, by a look at each server; 0 of an empty set.
 fn searched(w: u64, t: u16) -> u16 {
-    let mut f = Found {
-        some: false,
-        server: 0,
-    };
-    for y in 0..64u16 {
-        f = looked(f, w, t, y);
-    }
-    f.server
+    (0..64u16)
+        .filter(|y| has(w, *y))
+        .min_by_key(|y| y.abs_diff(t))
+        .unwrap_or(0)
 }
 
-#[derive(Drop)]
+// How many members were asked for, and how many of both searches agree.
+#[derive(Clone, Copy)]
 struct Tally {
     asked: u64,
     agree: u64,
 }
 
-fn asked(c: Tally, w: u64, t: u16) -> Tally {
-    if nearest(w, t) == u32_from_u16(searched(w, t)) {
-        return Tally {
-            asked: wrapping_add_u64(c.asked, 1),
-            agree: wrapping_add_u64(c.agree, 1),
-        };
+impl Tally {
+    const NONE: Tally = Tally { asked: 0, agree: 0 };
+
+    // One more, of a word and a number.
+    fn ask(self, w: u64, t: u16) -> Tally {
+        let agrees = nearest(w, t) == u32::from(searched(w, t));
+        Tally {
+            asked: self.asked.wrapping_add(1),
+            agree: self.agree.wrapping_add(u64::from(agrees)),
+        }
     }
-    Tally {
-        asked: wrapping_add_u64(c.asked, 1),
-        agree: c.agree,
+
+    // A word, with every number up to 65, and with the largest.
+    fn ask_all(self, w: u64) -> Tally {
+        let mut tally = self;
+        for t in 0..66u16 {
+            tally = tally.ask(w, t);
+        }
+        tally.ask(w, u16::MAX)
     }
 }
 
-// A word, with every number up to 65, and with the largest.
-fn asked_of(c: Tally, w: u64) -> Tally {
-    let mut next = c;
-    for t in 0..66u16 {
-        next = asked(next, w, t);
+impl fmt::Display for Tally {
+    fn fmt<W: fmt::Write>(&self, f: &mut fmt::Formatter<W>) -> fmt::Result {
+        write!(f, "{} agree {}", self.asked, self.agree)
     }
-    asked(next, w, 65535)
-}
-
-fn print_tally(rt: &impl Print, name: &str, c: Tally) -> io::Result<()> {
-    println!(rt; "{name} {} agree {}", c.asked, c.agree)
 }
 
 fn every_small(rt: &impl Print) -> io::Result<()> {
-    let mut c = Tally { asked: 0, agree: 0 };
+    let mut tally = Tally::NONE;
     for w in 0..256u64 {
-        c = asked_of(c, w);
+        tally = tally.ask_all(w);
     }
-    print_tally(rt, "sets of servers 0 to 7:", c)
+    println!(rt; "sets of servers 0 to 7: {tally}")
 }
 
 // The next word of a fixed sequence.
@@ -102,54 +68,42 @@ fn drawn(x: u64) -> u64 {
 fn thinned(x: u64, n: u32) -> u64 {
     let mut w = x;
     let mut y = x;
-    let mut left = n;
-    while 0 < left {
+    for _ in 0..n {
         y = drawn(y);
-        w = w & y;
-        left -= 1;
+        w &= y;
     }
     w
 }
 
 fn every_drawn(rt: &impl Print) -> io::Result<()> {
-    let mut c = Tally { asked: 0, agree: 0 };
+    let mut tally = Tally::NONE;
     let mut x: u64 = 88172645463325252;
     for i in 0..600u32 {
         x = drawn(x);
-        c = asked_of(c, thinned(x, i % 6));
+        tally = tally.ask_all(thinned(x, i % 6));
     }
-    print_tally(rt, "drawn sets of 64 servers:", c)
+    println!(rt; "drawn sets of 64 servers: {tally}")
 }
 
-// None; the number itself; both sides, equally far and not; one side alone; the ends of a word; numbers past it.
-const WORDS: [u64; 12] = [
-    0,
-    4,
-    20,
-    18,
-    36,
-    3,
-    48,
-    9223372036854775809,
-    9223372036854775809,
-    9223372036854775809,
-    9223372036854775808,
-    5,
+// A word and a number: none; the number itself; both sides, equally far and not; one side alone; the ends of a word; numbers past it.
+const CASES: [(u64, u16); 12] = [
+    (0, 3),
+    (4, 2),
+    (20, 3),
+    (18, 2),
+    (36, 4),
+    (3, 5),
+    (48, 1),
+    (9223372036854775809, 31),
+    (9223372036854775809, 32),
+    (9223372036854775809, 63),
+    (9223372036854775808, 64),
+    (5, 65535),
 ];
 
-const NUMBERS: [u16; 12] = [3, 2, 3, 2, 4, 5, 1, 31, 32, 63, 64, 65535];
-
-fn show(rt: &impl Print, k: usize) -> io::Result<()> {
-    if 12 <= k {
-        return Ok(());
-    }
-    let member = nearest(WORDS[k], NUMBERS[k]);
-    println!(rt; "nearest {} {}: {member}", WORDS[k], NUMBERS[k])
-}
-
 fn main(rt: HostRuntime) -> io::Result<()> {
-    for k in 0..12 {
-        show(&rt, k)?;
+    for (w, t) in CASES {
+        println!(rt; "nearest {w} {t}: {}", nearest(w, t))?;
     }
     every_small(&rt)?;
     every_drawn(&rt)

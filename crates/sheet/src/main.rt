@@ -11,7 +11,6 @@ ghost use Rattle.report.specs.Output.{output, price_limit};
 ghost use Rattle.streams.specs.Counts.{IsPrefixLen};
 
 use base::bytes::copy;
-use base::widths::size_from_u64;
 use prices::{BUILT_IN_LENGTH, built_in};
 use report::{PRICE_LIMIT, SHEET_ROOM, sheet_with};
 use request_log::LOG_LIMIT;
@@ -19,9 +18,10 @@ use std::env::{Env, FillError};
 use std::fs;
 use std::fs::Files;
 use streams::read_full;
-use text::{Printed, put_refusal};
+use text::put_refusal;
 
 // Room for the longest log and one byte more, so that a longer input is refused as it would be whole.
+#[tactic(auto, unfolding(request_log::specs::Sizes::log_limit))]
 fn input() -> [u8; LOG_LIMIT]
     ensures { log_limit ≡ length result }
 {
@@ -29,6 +29,7 @@ fn input() -> [u8; LOG_LIMIT]
 }
 
 // Room for the longest price file and one byte more, for the same reason.
+#[tactic(auto, unfolding(report::specs::Output::price_limit))]
 fn price_input() -> [u8; PRICE_LIMIT]
     ensures { price_limit ≡ length result }
 {
@@ -83,8 +84,7 @@ fn give_built_in(bytes: &mut [u8]) -> usize
     requires { price_limit ≡ length bytes.old }
     ensures { IsPrefixLen result bytes.new × (take result bytes.new ≡ built_in_bytes) }
 {
-    let table = built_in();
-    copy(bytes, 0, &table);
+    copy(bytes, 0, &built_in());
     BUILT_IN_LENGTH
 }
 
@@ -110,10 +110,9 @@ fn answer(prices: &[u8], log: &[u8], text: &mut [u8]) -> usize
     requires { sheet_room ≤ length text.old }
     ensures { IsPrefixLen result text.new × (take result text.new ≡ output (price_file prices.now) log.now) }
 {
-    let printed = sheet_with(prices, log, text);
-    match printed {
-        Printed::Length(n) => size_from_u64(n),
-        Printed::Refused(r) => put_refusal(text, r),
+    match sheet_with(prices, log, text) {
+        Ok(n) => n as usize,
+        Err(r) => put_refusal(text, r),
     }
 }
 

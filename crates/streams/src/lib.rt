@@ -1,10 +1,13 @@
-// Reading from what gives bytes into a buffer that is lent.
+// What programs share: reading into a buffer that is lent, and how an answer prints.
 #![tactic(auto)]
 
 ghost use Rattle.std.specs.Prelude.{◌≡◌, ◌⊎◌, length, take, OnOk};
 ghost use Rattle.std.specs.Io.KnownBytes.{Consumes, IsAtEnd};
 ghost use Rattle.streams.specs.Counts.{IsPrefixLen};
 
+mod answers;
+
+pub use answers::Answer;
 use std::io;
 use std::io::Read;
 

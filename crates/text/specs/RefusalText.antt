@@ -1,11 +1,11 @@
 -- The line of a refusal, and what a program prints (01's 'The sheet'). Assumes nothing.
-use Rattle.std.specs.Prelude.{Bool, List, [], ◌∷◌, ℕ, leb}
+use Rattle.std.specs.Prelude.{Bool, List, [], ◌∷◌, ℕ, leb, Ok, Err}
+use Rattle.base.specs.Refusals.{Verdict}
 use Rattle.base.specs.Choice.{pick, both}
 use Rattle.base.specs.declared.Refusal.{Refusal}
-use Rattle.base.specs.declared.Verdict.{Verdict}
-use Rattle.base.specs.declared.Verdict.TheVariants.{Passed, Refused}
 use Rattle.text.specs.Decimal.{decimal}
 use Rattle.text.specs.Lines.{ascii, line}
+use Rattle.base.specs.Reasons.{number}
 
 -- n lies from a to b
 abbrev pub within : ℕ → ℕ → ℕ → Bool
@@ -18,12 +18,12 @@ list_word number = pick (within 31 35 number) (ascii "state") (ascii "input")
 -- as `refused input 13 place 2`
 unfoldable pub refusal_text : Refusal → List ℕ
 refusal_text r =
-    line (ascii "refused" ∷ list_word r.number ∷ decimal r.number ∷ ascii "place" ∷ decimal r.place ∷ [])
+    line (ascii "refused" ∷ list_word (number r.reason) ∷ decimal (number r.reason) ∷ ascii "place" ∷ decimal r.place ∷ [])
 
 -- what a program prints by a verdict: a text, or the one line of the refusal
 unfoldable pub shown : Verdict → List ℕ → List ℕ
-shown Passed text = text
-shown (Refused r) text = refusal_text r
+shown (Ok _) text = text
+shown (Err r) text = refusal_text r
 
 -- room for any such line
 abbrev pub refusal_room : ℕ

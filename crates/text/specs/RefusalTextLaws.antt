@@ -10,13 +10,14 @@ use Rattle.text.specs.Lines.{ascii, line, line_end}
 use Rattle.text.specs.Page.{Page, added}
 use Rattle.text.specs.PageLaws.{added_append}
 use Rattle.text.specs.RefusalText.{list_word, refusal_text, refusal_room}
+use Rattle.base.specs.Reasons.{number}
 
 -- its parts
 pub refusal_parts : (r : Refusal) (p : Page)
     → added (ascii "\n")
     (added (ascii " " ++ decimal r.place)
     (added (ascii " place")
-    (added (ascii " " ++ decimal r.number) (added (list_word r.number) (added (ascii "refused ") p)))))
+    (added (ascii " " ++ decimal (number r.reason)) (added (list_word (number r.reason)) (added (ascii "refused ") p)))))
     ≡ added (refusal_text r) p
 unfolding refusal_text line line_end ascii added
 refusal_parts r p = simp added_append
@@ -44,7 +45,7 @@ list_length n =
     ]
 
 -- the line fits its room
-pub refusal_length : (r : Refusal) → r.number < 2 ^ 64 → r.place < 2 ^ 64 → length (refusal_text r) ≤ refusal_room
+pub refusal_length : (r : Refusal) → number r.reason < 2 ^ 64 → r.place < 2 ^ 64 → length (refusal_text r) ≤ refusal_room
 unfolding refusal_text line line_end ascii
 refusal_length r h l =
-    simp length-append (omega (arith, list_length r.number, decimal_length 19 r.number (omega arith), decimal_length 19 r.place (omega arith)))
+    simp length-append (omega (arith, list_length (number r.reason), decimal_length 19 (number r.reason) (omega arith), decimal_length 19 r.place (omega arith)))

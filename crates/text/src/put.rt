@@ -20,10 +20,8 @@ pub fn put(text: &mut [u8], at: usize, from: &[u8]) -> usize
     ensures { page result text.new ≡ added from.now (page at text.old) }
 {
     let mut to = at;
-    let mut i: usize = 0;
-    while i < from.len() {
-        to = put_byte(text, to, from[i]);
-        i += 1;
+    for b in from {
+        to = put_byte(text, to, *b);
     }
     to
 }
@@ -68,10 +66,8 @@ pub fn put_line(text: &mut [u8], at: usize, word: &[u8], numbers: &[u64]) -> usi
     ensures { page result text.new ≡ added (figure_line word.now numbers.now) (page at text.old) }
 {
     let mut to = put(text, at, word);
-    let mut next: usize = 0;
-    while next < numbers.len() {
-        to = put_field(text, to, numbers[next]);
-        next += 1;
+    for n in numbers {
+        to = put_field(text, to, *n);
     }
     put_byte(text, to, b'\n')
 }
@@ -81,29 +77,17 @@ fn put_spaces(text: &mut [u8], at: usize, count: usize) -> usize
     ensures { page result text.new ≡ added (replicate count 32) (page at text.old) }
 {
     let mut to = at;
-    let mut k: usize = 0;
-    while k < count {
+    for _ in 0..count {
         to = put_byte(text, to, b' ');
-        k += 1;
     }
     to
-}
-
-// The columns before the last one.
-fn before_last(width: usize) -> usize
-    ensures { result ≡ width - 1 }
-{
-    if width == 0 {
-        return 0;
-    }
-    width - 1
 }
 
 // A number right-aligned in so many columns, with spaces before it.
 pub fn put_aligned(text: &mut [u8], at: usize, width: usize, number: u64) -> usize
     ensures { page result text.new ≡ added (aligned width number) (page at text.old) }
 {
-    let rest = before_last(width);
+    let rest = width.saturating_sub(1);
     if number < 10 {
         let to = put_spaces(text, at, rest);
         return put_byte(text, to, digit(number));

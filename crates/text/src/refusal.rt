@@ -4,11 +4,10 @@ ghost use Rattle.text.specs.Answers.{room_verdict, printed, text_left};
 ghost use Rattle.text.specs.Page.{page, added};
 ghost use Rattle.text.specs.RefusalText.{list_word, refusal_text, refusal_room};
 
+use crate::REFUSAL_ROOM;
 use crate::give::give;
 use crate::put::{put, put_byte, put_field};
-use crate::{Printed, REFUSAL_ROOM};
 use base::Refusal;
-use base::widths::u64_from_u8;
 
 // The name of the list that a refusal's number is in.
 fn put_list(text: &mut [u8], at: usize, number: u8) -> usize
@@ -27,15 +26,16 @@ pub fn put_refusal(text: &mut [u8], refusal: Refusal) -> usize
     ensures refusal_len_bound { length (refusal_text refusal) ≤ refusal_room }
 {
     let a = put(text, 0, b"refused ");
-    let b = put_list(text, a, refusal.number);
-    let c = put_field(text, b, u64_from_u8(refusal.number));
+    let number = refusal.reason.number();
+    let b = put_list(text, a, number);
+    let c = put_field(text, b, u64::from(number));
     let d = put(text, c, b" place");
     let e = put_field(text, d, refusal.place);
     put_byte(text, e, b'\n')
 }
 
 // The one line of a refusal and zeros after it; refused with 31, the text as it was.
-pub fn refusal_line(refusal: Refusal, text: &mut [u8]) -> Printed
+pub fn refusal_line(refusal: Refusal, text: &mut [u8]) -> Result<u64, Refusal>
     ensures value { result ≡ printed (room_verdict (refusal_text refusal) (length text.old)) (refusal_text refusal) }
     ensures text_after { text.new ≡ text_left (refusal_text refusal) text.old }
 {

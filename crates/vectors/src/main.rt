@@ -5,7 +5,6 @@ mod brute;
 mod draw;
 mod figures;
 mod run;
-mod say;
 mod small;
 mod trials;
 mod weeks;

@@ -1,52 +1,31 @@
 // Weeks of at most seven requests. Home at second 0 has place 0, request i place i.
-ghost use Rattle.std.specs.Prelude.{◌≡◌, ◌<◌};
+use prices::Prices;
 
-// The second of request i.
-pub(crate) fn second(seconds: &[u32; 8], i: usize) -> u32 {
-    if i < 8 {
-        return seconds[i];
-    }
-    0
+// The second and the server of each place.
+#[derive(Clone, Copy)]
+pub(crate) struct Small {
+    pub(crate) seconds: [u32; 8],
+    pub(crate) servers: [u16; 8],
 }
 
-// The server of request i.
-pub(crate) fn server(servers: &[u16; 8], i: usize) -> u16 {
-    if i < 8 {
-        return servers[i];
+impl Small {
+    pub(crate) fn second(&self, i: usize) -> u32 {
+        if i < 8 { self.seconds[i] } else { 0 }
     }
-    0
-}
 
-// The place after k, 8 after the last.
-pub(crate) fn after(k: usize) -> usize {
-    if 7 < k {
-        return 8;
+    pub(crate) fn server(&self, i: usize) -> u16 {
+        if i < 8 { self.servers[i] } else { 0 }
     }
-    k + 1
-}
 
-// The seconds from one to another.
-pub(crate) fn since(from: u32, to: u32) -> u32 {
-    if to < from {
-        return 0;
+    // The last place before i at the same server.
+    pub(crate) fn previous(&self, i: usize) -> Option<usize> {
+        let server = self.server(i);
+        (0..i).rev().find(|j| self.server(*j) == server)
     }
-    to - from
-}
 
-fn same_before(servers: &[u16; 8], j: usize, i: usize) -> bool {
-    if i <= j {
-        return false;
+    // What it costs to hold from one place to another.
+    pub(crate) fn held(&self, prices: Prices, from: usize, to: usize) -> u64 {
+        let seconds = self.second(to).saturating_sub(self.second(from));
+        u64::from(prices.hold) * u64::from(seconds)
     }
-    server(servers, j) == server(servers, i)
-}
-
-// The previous request at the same server, 8 where there is none.
-pub(crate) fn previous(servers: &[u16; 8], i: usize) -> usize {
-    let mut found: usize = 8;
-    for j in 0..8 {
-        if same_before(servers, j, i) {
-            found = j;
-        }
-    }
-    found
 }

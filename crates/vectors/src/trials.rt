@@ -1,16 +1,15 @@
 // Small weeks, drawn one after the other: the library's plan of each beside the plan by brute force.
-use crate::brute::{cheapest, kept, put_rows};
-use crate::draw::{below, draw, drawn};
-use crate::run::{ABSENT, checked_rows, class_prices, least_given, planned, written};
-use crate::say;
-use base::widths::size_from_u32;
-use prices::{Prices, window};
-use std::io;
+use crate::brute::{Marked, cheapest};
+use crate::draw::{draw, drawn};
+use crate::run::{checked_rows, class_prices, header, planned, written};
+use crate::small::Small;
+use planner::least;
+use prices::window;
 use std::io::Print;
-use std::num::wrapping_add_u64;
+use std::{fmt, io};
 
 // In how many weeks the two agree.
-#[derive(Drop)]
+#[derive(Clone, Copy)]
 struct Tally {
     weeks: u64,
     costs: u64,
@@ -20,177 +19,91 @@ struct Tally {
     checked: u64,
 }
 
-// A week: its class and requests, and the length of its log.
-#[derive(Drop)]
-struct Week {
-    class: u8,
-    requests: usize,
-    length: usize,
-}
-
-fn byte(x: u32) -> u8 {
-    if 255 < x {
-        return 0;
+impl fmt::Display for Tally {
+    fn fmt<W: fmt::Write>(&self, f: &mut fmt::Formatter<W>) -> fmt::Result {
+        write!(
+            f,
+            "{}: costs {} marks {}",
+            self.weeks, self.costs, self.marks
+        )?;
+        write!(f, " rows {} prefixes {}", self.rows, self.prefixes)?;
+        write!(f, " checked {}", self.checked)
     }
-    x as u8
-}
-
-fn half(x: u16) -> u8 {
-    if 255 < x {
-        return 0;
-    }
-    x as u8
 }
 
 fn more(x: u64, agrees: bool) -> u64 {
-    if agrees {
-        return wrapping_add_u64(x, 1);
-    }
-    x
+    x.wrapping_add(u64::from(agrees))
 }
 
-fn letter(k: bool) -> u8 {
-    if k {
-        return b'K';
-    }
-    b'S'
-}
-
-// The letter of request k + 1, and zero after the last.
-fn same_mark(letters: &[u8; 8], marks: u32, n: usize, k: usize) -> bool {
-    if 8 <= k {
-        return true;
-    }
-    if n <= k {
-        return letters[k] == 0;
-    }
-    letters[k] == letter(kept(marks, k))
-}
-
-fn same_marks(letters: &[u8; 8], marks: u32, n: usize) -> bool {
-    for k in 0..8 {
-        if !same_mark(letters, marks, n, k) {
-            return false;
-        }
-    }
-    true
-}
-
-fn same_rows(rows: &[u32; 64], others: &[u32; 64]) -> bool {
-    for k in 0..64 {
-        if rows[k] != others[k] {
-            return false;
-        }
-    }
-    true
-}
-
-// The rows by brute force, and zeros after them.
-fn brute_rows(seconds: &[u32; 8], servers: &[u16; 8], n: usize, marks: u32) -> [u32; 64] {
-    let mut rows = [0u32; 64];
-    put_rows(seconds, servers, n, marks, &mut rows);
-    rows
-}
-
-// The least cost of the first k requests, and zero after the last.
-fn same_least(
-    prices: Prices,
-    seconds: &[u32; 8],
-    servers: &[u16; 8],
-    costs: &[u64; 9],
-    n: usize,
-    k: usize,
-) -> bool {
-    if 9 <= k {
-        return true;
-    }
-    if n < k {
-        return costs[k] == 0;
-    }
-    costs[k] == cheapest(prices, seconds, servers, k, 0).cost
-}
-
-fn same_prefixes(
-    prices: Prices,
-    seconds: &[u32; 8],
-    servers: &[u16; 8],
-    costs: &[u64; 9],
-    n: usize,
-) -> bool {
-    for k in 0..9 {
-        if !same_least(prices, seconds, servers, costs, n, k) {
-            return false;
-        }
-    }
-    true
-}
-
-// The least costs of a log, in a list that held other numbers.
-fn prefixes_agree(week: Week, log: &[u8], seconds: &[u32; 8], servers: &[u16; 8]) -> bool {
-    let mut costs = [7u64; 9];
-    least_given(log, &mut costs);
-    same_prefixes(
-        class_prices(week.class),
-        seconds,
-        servers,
-        &costs,
-        week.requests,
-    )
-}
-
-// The plan of a log, in lists that held other numbers.
-fn plan_agrees(t: Tally, week: Week, log: &[u8], seconds: &[u32; 8], servers: &[u16; 8]) -> Tally {
-    let mut letters = [7u8; 8];
-    let mut rows = [7u32; 64];
-    let n = week.requests;
-    let plan = planned(log, &mut letters, &mut rows);
-    let best = cheapest(class_prices(week.class), seconds, servers, n, 0);
-    let others = brute_rows(seconds, servers, n, best.marks);
-    Tally {
-        weeks: more(t.weeks, true),
-        costs: more(t.costs, plan.cost == best.cost),
-        marks: more(t.marks, same_marks(&letters, best.marks, n)),
-        rows: more(t.rows, same_rows(&rows, &others)),
-        prefixes: more(t.prefixes, prefixes_agree(week, log, seconds, servers)),
-        checked: more(t.checked, checked_rows(log, &rows, plan.rows) == plan.cost),
-    }
-}
-
-// The log of the first n requests; its length, 0 where it is refused.
-fn log_of(
+// A week's class and its requests: the first n of a small week.
+#[derive(Clone, Copy)]
+struct Trial<'a> {
     class: u8,
-    server_count: u8,
     n: usize,
-    seconds: &[u32],
-    servers: &[u16],
-    log: &mut [u8],
-) -> usize {
-    if seconds.len() <= n {
-        return 0;
-    }
-    if servers.len() <= n {
-        return 0;
-    }
-    let length = written(
-        class,
-        server_count,
-        half(servers[0]),
-        &seconds[1..n + 1],
-        &servers[1..n + 1],
-        log,
-    );
-    if length == ABSENT {
-        return 0;
-    }
-    length as usize
+    week: &'a Small,
 }
 
-fn one(t: Tally, week: Week, log: &[u8], seconds: &[u32; 8], servers: &[u16; 8]) -> Tally {
-    let length = week.length;
-    if log.len() < length {
-        return t;
+impl<'a> Trial<'a> {
+    // The least cost of the first 0, 1, .., n requests by brute force, and zeros after them.
+    fn least_costs(self) -> [u64; 9] {
+        let prices = class_prices(self.class);
+        let mut costs = [0u64; 9];
+        for k in 0..9 {
+            if k <= self.n {
+                costs[k] = cheapest(prices, self.week, k, 0).cost;
+            }
+        }
+        costs
     }
-    plan_agrees(t, week, &log[..length], seconds, servers)
+
+    // The least costs of a log, in a list that held other numbers.
+    fn prefixes_agree(self, log: &[u8]) -> bool {
+        let mut costs = [7u64; 9];
+        let _ = least(log, &mut costs);
+        costs == self.least_costs()
+    }
+
+    // The plan of a log, in lists that held other numbers.
+    fn judge(self, t: Tally, log: &[u8]) -> Tally {
+        let mut letters = [7u8; 8];
+        let mut rows = [7u32; 64];
+        let plan = planned(log, &mut letters, &mut rows);
+        let best = cheapest(class_prices(self.class), self.week, self.n, 0);
+        let list = Marked {
+            week: self.week,
+            n: self.n,
+            marks: best.marks,
+        };
+        Tally {
+            weeks: more(t.weeks, true),
+            costs: more(t.costs, plan.cost == best.cost),
+            marks: more(t.marks, letters == list.letters()),
+            rows: more(t.rows, rows == list.rows()),
+            prefixes: more(t.prefixes, self.prefixes_agree(log)),
+            checked: more(t.checked, checked_rows(log, &rows, plan.rows) == plan.cost),
+        }
+    }
+
+    // The log, over so many servers.
+    fn judge_written(self, t: Tally, count: u8) -> Tally {
+        let week = *self.week;
+        let home = u8::try_from(week.servers[0]).unwrap_or(0);
+        let n = self.n;
+        let mut log = [0u8; 82];
+        if 7 < n {
+            return t;
+        }
+        let length = written(
+            header(self.class, count, home),
+            &week.seconds[1..n + 1],
+            &week.servers[1..n + 1],
+            &mut log,
+        );
+        match log.get(..length as usize) {
+            Some(bytes) => self.judge(t, bytes),
+            None => self.judge(t, &[]),
+        }
+    }
 }
 
 // Twice the window and a little more, so that both marks come up.
@@ -202,49 +115,17 @@ fn apart(class: u8) -> u32 {
     2 * w + 9
 }
 
-// The first n requests of a drawn week.
-fn judged(
-    t: Tally,
-    class: u8,
-    server_count: u8,
-    n: usize,
-    seconds: &[u32; 8],
-    servers: &[u16; 8],
-) -> Tally {
-    let mut log = [0u8; 82];
-    let length = log_of(class, server_count, n, seconds, servers, &mut log);
-    let week = Week {
-        class,
-        requests: n,
-        length,
-    };
-    one(t, week, &log, seconds, servers)
-}
-
 // Trial i, from a drawn number: 1 to 4 servers, 0 to 7 requests.
-fn trial(t: Tally, x: u32, class: u8, i: u32) -> Tally {
-    let mut seconds = [0u32; 8];
-    let mut servers = [0u16; 8];
-    let count = 1 + i % 4;
-    draw(x, apart(class), count, &mut seconds, &mut servers);
-    judged(
-        t,
+fn tried(t: Tally, x: u32, i: u32) -> Tally {
+    let class = (x / 7 % 8) as u8;
+    let count = (1 + i % 4) as u8;
+    let week = draw(x, apart(class), count);
+    let trial = Trial {
         class,
-        byte(count),
-        size_from_u32(i / 4 % 8),
-        &seconds,
-        &servers,
-    )
-}
-
-fn say_tally(rt: &impl Print, t: Tally) -> io::Result<()> {
-    say::figure(rt, "small weeks", t.weeks)?;
-    say::figure(rt, ": costs", t.costs)?;
-    say::figure(rt, " marks", t.marks)?;
-    say::figure(rt, " rows", t.rows)?;
-    say::figure(rt, " prefixes", t.prefixes)?;
-    say::figure(rt, " checked", t.checked)?;
-    say::end_line(rt)
+        n: (i / 4 % 8) as usize,
+        week: &week,
+    };
+    trial.judge_written(t, count)
 }
 
 pub(crate) fn show(rt: &impl Print) -> io::Result<()> {
@@ -257,11 +138,9 @@ pub(crate) fn show(rt: &impl Print) -> io::Result<()> {
         checked: 0,
     };
     let mut x: u32 = 2026;
-    let mut i: u32 = 0;
-    while i < 4096 {
+    for i in 0..4096u32 {
         x = drawn(x);
-        t = trial(t, x, byte(below(x, 8)), i);
-        i += 1;
+        t = tried(t, x, i);
     }
-    say_tally(rt, t)
+    println!(rt; "small weeks {t}")
 }

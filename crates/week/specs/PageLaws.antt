@@ -1,16 +1,15 @@
 -- The page of an accepted log, from the rows of its plan to its bytes.
-use Rattle.std.specs.Prelude.{true, ◌≡◌, refl, ℕ, zero, suc, pred, ◌*◌, ◌≤◌, ◌<◌, length}
-use mathlib.Core.List.{List, [], ◌++◌}
+use Rattle.std.specs.Prelude.{true, ◌≡◌, refl, ℕ, zero, suc, pred, ◌*◌, ◌≤◌, ◌<◌, length, Ok, Err}
+use mathlib.Core.List.{List, [], ◌∷◌, ◌++◌}
 use Rattle.std.proofs.Math.Option.{none}
 use Rattle.std.proofs.Math.Path.{sym, ap, ap₂}
-use Rattle.std.proofs.Common.{◌∙◌, arith, length-append, lt-ltb, le-ltb}
+use Rattle.std.proofs.Common.{◌∙◌, arith, length-append, ltb-false}
 use Rattle.std.proofs.Math.ListN.{get_or}
 use Rattle.base.specs.Lent.{lent}
 use Rattle.base.specs.Lists.{build, build_at, build_same}
-use Rattle.base.specs.Refusals.{first}
+use Rattle.base.specs.Refusals.{first, otherwise, short, Verdict}
+use Rattle.base.specs.RefusalLaws.{first_passed}
 use Rattle.base.specs.declared.Refusal.{Refusal}
-use Rattle.base.specs.declared.Verdict.{Verdict}
-use Rattle.base.specs.declared.Verdict.TheVariants.{Passed, Refused}
 use Rattle.prices.specs.Tariff.{Tariff}
 use Rattle.request_log.specs.Fields.{server_count_of, request_count, length_for}
 use Rattle.request_log.specs.Conditions.{Accepted, verdict_of}
@@ -26,10 +25,8 @@ use Rattle.model.specs.RowForm.{all_fit, ordered, rows_upto}
 use Rattle.model.proofs.RowLaws.{Formed, formed, fits_hold, member_all_fit, row_member}
 use Rattle.model.specs.Sums.{total}
 use Rattle.model.proofs.SumLaws.{sum_same}
-use Rattle.planner.specs.declared.Planned.TheVariants as plans
-use Rattle.planner.specs.Answers.{planned_rows, rows_of_plan, planned}
-use Rattle.planner.specs.RoomLaws.{Roomy, few_rows}
-use Rattle.text.specs.Answers.{room_verdict}
+use Rattle.planner.specs.Answers.{planned_rows, rows_of_plan, plan_verdict, planned, rows_left}
+use Rattle.planner.specs.RoomLaws.{Roomy, few_rows, plan_roomy}
 use Rattle.text.specs.Lines.{ascii}
 use Rattle.week.specs.Days.{week_seconds, week_days, cell, server_days, day_sums}
 use Rattle.week.specs.DayLaws.{row_in_day, cell_total, cell_most}
@@ -39,6 +36,8 @@ use Rattle.week.specs.LineLaws.{lines_same}
 use Rattle.week.specs.PageLength.{page_room, page_length}
 use Rattle.week.specs.PageText.{week_line, page_lines, page_text}
 use Rattle.week.specs.Pages.{page_of, last_second, after_week, page_verdict}
+use Rattle.planner.specs.Outcome.{Outcome}
+use Rattle.planner.specs.declared.Planned.{Planned}
 
 -- n rows are n
 upto_length : (ns : List ℕ) (n : ℕ) → length (rows_upto ns n) ≡ n
@@ -114,48 +113,57 @@ module _ (t : Tariff) (log : List ℕ) (a : Accepted t log) where
         row : (y : ℕ) → y < 64 → get_or table y [] ≡ server_days (planned_rows t none log) y
         row y h = rw e (build_at 64 (days_upto ns n) y [] h ∙ figures_right y)
 
-  -- after the week it is refused
-  pub page_late : (room : ℕ) → week_seconds < last_second log → page_verdict t log room ≡ Refused (record { number = 36; place = 0 })
-  unfolding page_verdict after_week first
-  page_late room h = after_accepted t log _ a ∙ rw (lt-ltb week_seconds (last_second log) h)
+  -- an accepted log's page is refused by 36 and by its room alone
+  pub page_parts : (room : ℕ) → page_verdict t log room ≡ first (after_week log ∷ short (length (page_of t log)) room ∷ [])
+  unfolding page_verdict
+  page_parts room = after_accepted t log _ a
 
-  -- in the week it needs room
-  pub page_timely : (room : ℕ) → last_second log ≤ week_seconds → page_verdict t log room ≡ room_verdict (page_of t log) room
-  unfolding page_verdict after_week first room_verdict
-  page_timely room h = after_accepted t log _ a ∙ rw (le-ltb week_seconds (last_second log) h)
+-- a log that 36 does not refuse ends in the week
+pub timely : (log : List ℕ) → first (after_week log ∷ []) ≡ Ok tt → last_second log ≤ week_seconds
+unfolding after_week
+timely log e = ltb-false week_seconds (last_second log) ((first_passed (after_week log ∷ [])).0 e 0)
 
 -- a short log's plan needs little room
 pub short_roomy : (t : Tariff) (log : List ℕ) → length log ≤ 424 → Roomy t log 64 512
 unfolding length_for
 short_roomy t log h a = let e = (accepted_sound t log a).length_is in (omega (arith, e), omega (arith, e))
 
--- what is known where the plan is answered: the log is accepted, and how many rows there are
-pub plan_answered : (t : Tariff) (log : List ℕ) (cost n : ℕ) → planned (verdict_of t log) t none log ≡ plans.Plan cost n
-    → Accepted t log × (n ≡ length (planned_rows t none log))
-unfolding planned Accepted
-plan_answered t log cost n e = go (verdict_of t log) refl
-  where
-    go : (v : Verdict) → verdict_of t log ≡ v → (verdict_of t log ≡ Passed) × (n ≡ length (planned_rows t none log))
-    go Passed f = let g = rw f at e in (f, cc)
-    go (Refused r) f = let g = rw f at e in absurd (let z : ◌≡◌ {A = ℕ} 0 1 = cc in omega arith)
+-- a plan in lists that have room for it
+module _ (t : Tariff) (log marks rows : List ℕ) (room : Roomy t log (length marks) (length rows)) where
+  -- is refused as the log is
+  as_log : plan_verdict t none log (length marks) (length rows) ≡ verdict_of t log
+  as_log = plan_roomy t log (length marks) (length rows) room
 
--- and where it is refused
-pub plan_refused : (t : Tariff) (log : List ℕ) (r : Refusal) → planned (verdict_of t log) t none log ≡ plans.Refused r → verdict_of t log ≡ Refused r
-unfolding planned
-plan_refused t log r e = go (verdict_of t log) refl
-  where
-    go : (v : Verdict) → verdict_of t log ≡ v → verdict_of t log ≡ Refused r
-    go Passed f = let g = rw f at e in absurd (let z : ◌≡◌ {A = ℕ} 0 1 = cc in omega arith)
-    go (Refused s) f = let g = rw f at e in f ∙ (let k : Refused s ≡ Refused r = cc in k)
+  -- where it is, so is the page
+  pub plan_refused : (r : Refusal) (place : ℕ) → planned (plan_verdict t none log (length marks) (length rows)) t none log ≡ Err r
+      → page_verdict t log place ≡ Err r
+  unfolding page_verdict planned
+  plan_refused r place e = after_log t log _ ∙ go (verdict_of t log) _ (rw as_log at e)
+    where
+      go : (v w : Verdict) → planned v t none log ≡ Err r → otherwise v w ≡ Err r
+      go (Ok _) w f = let z : ◌≡◌ {A = ℕ} 0 1 = cc in absurd (omega arith)
+      go (Err s) w f =
+          let same : s ≡ r = cc in
+          ap Err same
 
--- the rows of an accepted log's plan stand at the front of what was lent
-pub plan_stands : (t : Tariff) (log ns o : List ℕ) → ns ≡ lent Passed (rows_of_plan t none log) o
-    → (4 * length (planned_rows t none log) ≤ length ns) × (rows_upto ns (length (planned_rows t none log)) ≡ planned_rows t none log)
-unfolding lent rows_of_plan
-plan_stands t log ns o e =
-    rw e (simp length-append (omega (arith, flat_length (planned_rows t none log))), upto_flat (planned_rows t none log) _)
+  -- where it is answered the log is accepted, and the answer has the number of its rows
+  pub plan_answered : (p : Planned) → planned (plan_verdict t none log (length marks) (length rows)) t none log ≡ Ok p
+      → Accepted t log × (p.rows ≡ length (planned_rows t none log))
+  unfolding planned Accepted
+  plan_answered p e = go (verdict_of t log) (rw as_log at e)
+    where
+      rows_of : Outcome → ℕ
+      rows_of (Ok p) = p.rows
+      rows_of (Err r) = 0
 
--- a refused log is refused
-pub page_refused : (t : Tariff) (log : List ℕ) (room : ℕ) (r : Refusal) → verdict_of t log ≡ Refused r → page_verdict t log room ≡ Refused r
-unfolding page_verdict
-page_refused t log room r e = after_log t log _ ∙ rw e
+      go : (v : Verdict) → planned v t none log ≡ Ok p → (v ≡ Ok tt) × (p.rows ≡ length (planned_rows t none log))
+      go (Ok _) f = (refl, sym (ap rows_of f))
+      go (Err r) f = let z : ◌≡◌ {A = ℕ} 0 1 = cc in absurd (omega arith)
+
+  -- and these stand at the front of what was lent
+  pub plan_stands : (p : Planned) (ns : List ℕ) → planned (plan_verdict t none log (length marks) (length rows)) t none log ≡ Ok p
+      → ns ≡ rows_left t none log marks rows → (4 * p.rows ≤ length ns) × (rows_upto ns p.rows ≡ planned_rows t none log)
+  unfolding lent rows_of_plan Accepted
+  plan_stands p ns e f =
+      let (a, n) = plan_answered p e in
+      rw (f, as_log, a, n) (simp length-append (omega (arith, flat_length (planned_rows t none log))), upto_flat (planned_rows t none log) _)

@@ -1,9 +1,9 @@
 -- The week page of a log: what the call answers, and what the program prints (02's Req 01). Assumes nothing.
 use Rattle.std.specs.Prelude.{List, [], ◌∷◌, ◌++◌, ℕ, ltb, length}
+use Rattle.base.specs.declared.reasons.Reason.TheVariants as reason
 use Rattle.std.proofs.Math.Option.{none}
 use Rattle.base.specs.Lent.{lent}
-use Rattle.base.specs.Refusals.{Condition, refuse, first, otherwise, short}
-use Rattle.base.specs.declared.Verdict.{Verdict}
+use Rattle.base.specs.Refusals.{Condition, refuse, first, otherwise, short, Verdict}
 use Rattle.prices.specs.Tariff.{Tariff}
 use Rattle.request_log.specs.Fields.{server_count_of, request_count, seconds_of}
 use Rattle.request_log.specs.Conditions.{before, log_conditions}
@@ -22,7 +22,7 @@ last_second log = before (seconds_of log) (request_count log)
 
 -- 36: the last request is after the week
 unfoldable pub after_week : List ℕ → Condition
-after_week log = refuse 36 0 (ltb week_seconds (last_second log))
+after_week log = refuse reason.AfterWeek 0 (ltb week_seconds (last_second log))
 
 -- the page's conditions: the log's, 36, then 31 for what is lent
 unfoldable pub page_verdict : Tariff → List ℕ → ℕ → Verdict

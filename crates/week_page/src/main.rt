@@ -8,13 +8,13 @@ ghost use Rattle.streams.specs.Counts.{IsPrefixLen};
 ghost use Rattle.week.specs.Pages.{page_output};
 ghost use Rattle.week.specs.PageLength.{page_room};
 
-use base::widths::size_from_u64;
 use request_log::LOG_LIMIT;
 use streams::read_full;
-use text::{Printed, put_refusal};
+use text::put_refusal;
 use week::{PAGE_ROOM, page};
 
 // Room for the longest log and one byte more, so that a longer input is refused as it would be whole.
+#[tactic(auto, unfolding(request_log::specs::Sizes::log_limit))]
 fn input() -> [u8; LOG_LIMIT]
     ensures { log_limit ≡ length result }
 {
@@ -33,10 +33,9 @@ fn answer(log: &[u8], text: &mut [u8]) -> usize
     requires { page_room ≤ length text.old }
     ensures { IsPrefixLen result text.new × (take result text.new ≡ page_output built_in log.now) }
 {
-    let printed = page(log, text);
-    match printed {
-        Printed::Length(n) => size_from_u64(n),
-        Printed::Refused(r) => put_refusal(text, r),
+    match page(log, text) {
+        Ok(n) => n as usize,
+        Err(r) => put_refusal(text, r),
     }
 }
 

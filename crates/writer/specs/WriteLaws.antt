@@ -1,11 +1,10 @@
 -- What the writer's steps make of the lent bytes, one after the other.
 use mathlib.Core.List.{List, [], ◌++◌, append_assoc}
-use Rattle.std.specs.Prelude.{◌≡◌, refl, ℕ, suc, ◌+◌, ◌*◌, ◌-◌, ◌≤◌, replicate}
+use Rattle.std.specs.Prelude.{◌≡◌, refl, ℕ, suc, ◌+◌, ◌*◌, ◌-◌, ◌≤◌, replicate, Ok}
 use Rattle.std.proofs.Common.{sym, ◌∙◌, arith, length-drop, take-append-drop, drop-drop, length-take-le}
 use Rattle.std.proofs.Math.Path.{ap}
 use Rattle.std.proofs.Math.ListN.{length, take, drop, length-append}
 use Rattle.std.proofs.Math.Seq.{take_at, drop_at}
-use Rattle.base.specs.declared.Verdict.TheVariants.{Passed}
 use Rattle.base.specs.Bytes.{bytes}
 use Rattle.base.specs.BytesLaws.{bytes_length}
 use Rattle.base.specs.Lent.{lent}
@@ -118,7 +117,7 @@ module _ (a b c o : List ℕ) (n : ℕ) (la : length a ≡ 20) (lb : length b �
   -- all steps together: the log, and zeros after it
   pub all_written : (o₁ o₂ o₃ : List ℕ) → o₁ ≡ splice 24 b (splice 0 a o) → o₂ ≡ take 40 o₁ ++ (c ++ drop (40 + 6 * n) o₁)
       → o₃ ≡ cleared (40 + 6 * n) o₂
-      → splice 20 (bytes 4 (sum_of (take (40 + 6 * n) o₃))) o₃ ≡ lent Passed (a ++ (bytes 4 (sum_from 0 (a ++ (b ++ c))) ++ (b ++ c))) o
+      → splice 20 (bytes 4 (sum_of (take (40 + 6 * n) o₃))) o₃ ≡ lent (Ok tt) (a ++ (bytes 4 (sum_from 0 (a ++ (b ++ c))) ++ (b ++ c))) o
   unfolding lent
   all_written o₁ o₂ o₃ p q r =
       let s = bytes 4 (sum_from 0 (a ++ (b ++ c))) in

@@ -6,45 +6,29 @@ mod conditions;
 ghost use Rattle.std.specs.Prelude.{◌≡◌, ◌++◌, ◌+◌, ◌*◌, ◌≤◌, ◌<◌, length, take, drop};
 ghost use Rattle.base.specs.Bytes.{bytes};
 ghost use Rattle.base.specs.Lists.{splice};
-ghost use Rattle.prices.specs.PriceFile.{table_in};
-ghost use Rattle.prices.specs.Tariff.{tariff};
+ghost use Rattle.prices.specs.Tariff.{tariff_of};
 ghost use Rattle.prices.specs.Offer.{offer, built_in_offer, file_offer};
 ghost use Rattle.checksum.specs.Sum.{sum_of};
 ghost use Rattle.request_log.specs.Sizes.{most_requests};
 ghost use Rattle.request_log.specs.Contents.{contents, head, request_bytes, requests_bytes};
 ghost use Rattle.request_log.specs.Answers.{write_verdict, written, log_left};
 
-use base::Verdict;
-use base::bytes::{clear8, copy, le_bytes16, le_bytes32};
-use base::refusals::or_else;
-use base::widths::u64_from_size;
+use base::bytes::{clear, copy, le_bytes16, le_bytes32};
+use base::refusals::refuse_if;
+use base::{Reason, Refusal, Verdict};
 use checksum::sum;
 use conditions::contents_fault;
-use prices::{built_in, ended, file_fault};
-use request_log::{Header, Written};
-
-// At most 2,048 requests, in narrower types.
-pub(crate) fn u16_from_size(n: usize) -> u16
-    requires { n ≤ most_requests }
-    ensures { result ≡ n }
-{
-    n as u16
-}
-
-fn u32_from_size(n: usize) -> u32
-    requires { n ≤ most_requests }
-    ensures { result ≡ n }
-{
-    n as u32
-}
+use prices::{Tariff, ended};
+use request_log::Header;
 
 // Bytes 0 to 19 of a log of n requests.
+#[tactic(auto, unfolding(request_log::specs::Contents::head, request_log::specs::Fields::length_for))]
 fn front(header: Header, n: usize) -> [u8; 20]
     requires { n ≤ most_requests }
     ensures { result ≡ head header n }
 {
-    let c = le_bytes16(u16_from_size(n));
-    let t = le_bytes32(40 + 6 * u32_from_size(n));
+    let c = le_bytes16(n as u16);
+    let t = le_bytes32(40 + 6 * n as u32);
     [
         1,
         0,
@@ -89,6 +73,7 @@ fn put_head(header: Header, n: usize, log: &mut [u8])
 }
 
 // Request k, into its place.
+#[tactic(auto, unfolding(request_log::specs::Contents::request_bytes))]
 fn put_request(seconds: &[u32], servers: &[u16], k: usize, log: &mut [u8])
     requires { (k < length seconds.now) × (k < length servers.now) × (k < most_requests) }
     ensures { log.new ≡ splice (40 + 6 * k) (request_bytes seconds.now servers.now k) log.old }
@@ -101,10 +86,8 @@ fn put_requests(seconds: &[u32], servers: &[u16], log: &mut [u8])
     requires { (length seconds.now ≡ length servers.now) × (length seconds.now ≤ most_requests) × (40 + 6 * length seconds.now ≤ length log.old) }
     ensures { log.new ≡ take 40 log.old ++ (requests_bytes seconds.now servers.now (length seconds.now) ++ drop (40 + 6 * length seconds.now) log.old) }
 {
-    let mut k: usize = 0;
-    while k < seconds.len() {
+    for k in 0..seconds.len() {
         put_request(seconds, servers, k, log);
-        k += 1;
     }
 }
 
@@ -118,62 +101,57 @@ fn put_sum(total: usize, log: &mut [u8])
 }
 
 // What the price file was answered, the conditions on what is to be written, then 31 for the log.
+#[tactic(auto, using(request_log::specs::AnswerLaws::write_parts, base::specs::RefusalLaws::chain), unfolding(request_log::specs::Fields::length_for))]
 fn write_fault(
-    v: Verdict,
-    prices: &[u8],
+    tariff: Tariff,
     ended: bool,
     header: Header,
     seconds: &[u32],
     servers: &[u16],
     log: usize,
 ) -> Verdict
-    ensures { result ≡ write_verdict (offer (tariff v (table_in prices.now)) (λ class. ended)) (contents header seconds.now servers.now) log }
+    ensures { result ≡ write_verdict (offer (tariff_of tariff.entry) (λ class. ended)) (contents header seconds.now servers.now) log }
 {
-    let v = contents_fault(v, prices, ended, header, seconds, servers);
-    if let Verdict::Refused(r) = v {
-        return Verdict::Refused(r);
-    }
+    contents_fault(tariff, ended, header, seconds, servers)?;
     let total = 40 + 6 * seconds.len();
-    or_else(Verdict::Passed, log < total, 31, u64_from_size(total))
+    refuse_if(log < total, Reason::ShortOutput, total as u64)
 }
 
 // Write a log by a price file and what that was answered: its bytes into what is lent, and zeros after them.
 pub fn write_by(
-    v: Verdict,
-    prices: &[u8],
+    tariff: Tariff,
     ended: bool,
     header: Header,
     seconds: &[u32],
     servers: &[u16],
     log: &mut [u8],
-) -> Written
-    ensures value { result ≡ written (write_verdict (offer (tariff v (table_in prices.now)) (λ class. ended)) (contents header seconds.now servers.now) (length log.old)) (contents header seconds.now servers.now) }
-    ensures log_after { log.new ≡ log_left (offer (tariff v (table_in prices.now)) (λ class. ended)) (contents header seconds.now servers.now) log.old }
+) -> Result<u64, Refusal>
+    ensures value { result ≡ written (write_verdict (offer (tariff_of tariff.entry) (λ class. ended)) (contents header seconds.now servers.now) (length log.old)) (contents header seconds.now servers.now) }
+    ensures log_after { log.new ≡ log_left (offer (tariff_of tariff.entry) (λ class. ended)) (contents header seconds.now servers.now) log.old }
 {
-    let v = write_fault(v, prices, ended, header, seconds, servers, log.len());
-    if let Verdict::Refused(r) = v {
-        return Written::Refused(r);
-    }
+    write_fault(tariff, ended, header, seconds, servers, log.len())?;
     let n = seconds.len();
     let total = 40 + 6 * n;
     put_head(header, n, log);
     put_requests(seconds, servers, log);
-    clear8(log, total);
+    clear(log, total);
     put_sum(total, log);
-    Written::Length(u64_from_size(total))
+    Ok(total as u64)
 }
 
 // Write a log by the built-in table.
-pub fn write(header: Header, seconds: &[u32], servers: &[u16], log: &mut [u8]) -> Written
+pub fn write(
+    header: Header,
+    seconds: &[u32],
+    servers: &[u16],
+    log: &mut [u8],
+) -> Result<u64, Refusal>
     ensures value { result ≡ written (write_verdict built_in_offer (contents header seconds.now servers.now) (length log.old)) (contents header seconds.now servers.now) }
     ensures log_after { log.new ≡ log_left built_in_offer (contents header seconds.now servers.now) log.old }
 {
-    let prices = built_in();
-    let gone = ended(header.class);
     write_by(
-        Verdict::Passed,
-        &prices,
-        gone,
+        Tariff::built_in(),
+        ended(header.class),
         header,
         seconds,
         servers,
@@ -188,13 +166,12 @@ pub fn write_with(
     seconds: &[u32],
     servers: &[u16],
     log: &mut [u8],
-) -> Written
+) -> Result<u64, Refusal>
     ensures value { result ≡ written (write_verdict (file_offer prices.now) (contents header seconds.now servers.now) (length log.old)) (contents header seconds.now servers.now) }
     ensures log_after { log.new ≡ log_left (file_offer prices.now) (contents header seconds.now servers.now) log.old }
 {
     write_by(
-        file_fault(prices),
-        prices,
+        Tariff::of_file(prices),
         false,
         header,
         seconds,

@@ -1,16 +1,24 @@
 -- `checksum::sum_from` meets its contract. Assumes nothing.
-use Rattle.std.proofs.Common.{◌≡◌, ◌-◌, ◌%◌, length, take, drop, sym, ◌∙◌, arith, length-drop, take_all}
-use native.Mathlib.Nat.{sub-zero}
+use Rattle.std.proofs.Common.{◌≡◌, length, ◌∙◌, add-one, arith, drop-cons}
+use lib.Seq.{drop-length}
 use Rattle.checksum.specs.Sum.{sum_from}
-use Rattle.checksum.specs.SumLaws.{sum_cut}
+use Rattle.checksum.specs.SumLaws.{group_on}
 use Rattle.checksum.proofs.sum_from.Goals as goal
 
+pub loop-group-preserved : goal.loop-group-preserved
+loop-group-preserved c =
+    let l = c.loop-group in
+    rw c.step4-s.ensures (group_on l.s c.args.bytes.now _ l.group-index c.as_chunks.ensures.front (omega (arith, c.as_chunks.ensures.front_len)) ∙ l.invariant)
+
+pub loop-byte-preserved : goal.loop-byte-preserved
+unfolding sum_from
+loop-byte-preserved c =
+    let i = c.loop-byte.byte-index in
+    rw (c.step-s.ensures, add-one i) (rw (drop-cons c.as_chunks.result.1.now i 0 (omega arith)) at c.loop-byte.invariant)
+
 pub returns : goal.returns
+unfolding sum_from
 returns c =
-    let start = c.args.start in
-    let bytes = c.args.bytes.now in
-    let whole = length bytes - length bytes % 4 in
-    let rest : take (length bytes - whole) (drop whole bytes) ≡ drop whole bytes = take_all (length bytes - whole) (drop whole bytes) (simp length-drop (omega arith)) in
-    let front : c.by_fours-s.result ≡ sum_from start (take whole bytes) = simp sub-zero at c.by_fours-s.ensures in
-    let tail : c.singly.result ≡ sum_from c.by_fours-s.result (take (length bytes - whole) (drop whole bytes)) = c.singly.ensures in
-    tail ∙ rw (rest, front) (sym (sum_cut start whole bytes))
+    let left = c.as_chunks.result.1.now in
+    let e : c.loop-byte.byte-index ≡ length left = omega arith in
+    rw (e, drop-length) at c.loop-byte.invariant

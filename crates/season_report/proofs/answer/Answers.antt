@@ -4,14 +4,14 @@ use Rattle.season.specs.ReportLaws.{report_stands, report_prints}
 use Rattle.season_report.proofs.answer.Goals as goal
 
 -- the report
-pub returns-in-Length : goal.returns-in-Length
-returns-in-Length c =
-    let e = c.summary-printed.ensures in
-    let f = report_stands _ c.args.text.now e.tally_len_bound c.requires _ _ (sym e.value ∙ c.in-Length.is) e.text_after in
-    rw c.size_from_u64.ensures.0 ((f.0, sym (length-take-le _ _ f.0)), f.1 ∙ ap report_text c.finish.ensures)
+pub returns-in-Ok : goal.returns-in-Ok
+returns-in-Ok c =
+    let e = c.summary.ensures in
+    let f = report_stands _ c.args.text.now e.tally_len_bound c.requires _ _ (sym e.value ∙ c.in-Ok.is) e.text_after in
+    ((f.0, sym (length-take-le _ _ f.0)), f.1 ∙ ap report_text c.finish.ensures)
 
 -- a report has room
-pub returns-in-Refused : goal.returns-in-Refused
-returns-in-Refused c =
-    let e = c.summary-printed.ensures in
-    absurd (report_prints _ c.args.text.now e.tally_len_bound c.requires _ (sym e.value ∙ c.in-Refused.is))
+pub returns-in-Err : goal.returns-in-Err
+returns-in-Err c =
+    let e = c.summary.ensures in
+    absurd (report_prints _ c.args.text.now e.tally_len_bound c.requires _ (sym e.value ∙ c.in-Err.is))

@@ -5,16 +5,16 @@ use Rattle.report.specs.OutputLaws.{sheet_stands, sheet_refuses}
 use Rattle.sheet.proofs.answer.Goals as goal
 
 -- the sheet
-pub returns-in-Length : goal.returns-in-Length
-returns-in-Length c =
-    let e = c.sheet_with-printed.ensures in
-    let f = sheet_stands _ (file_priced c.args.prices.now) c.args.log.now c.args.text.now c.requires _ _ (sym e.value ∙ c.in-Length.is) e.text_after in
-    rw c.size_from_u64.ensures.0 ((f.0, sym (length-take-le _ _ f.0)), f.1)
+pub returns-in-Ok : goal.returns-in-Ok
+returns-in-Ok c =
+    let e = c.sheet_with.ensures in
+    let f = sheet_stands _ (file_priced c.args.prices.now) c.args.log.now c.args.text.now c.requires _ _ (sym e.value ∙ c.in-Ok.is) e.text_after in
+    ((f.0, sym (length-take-le _ _ f.0)), f.1)
 
 -- the line of a refusal
-pub returns-in-Refused : goal.returns-in-Refused
-returns-in-Refused c =
-    let e = c.sheet_with-printed.ensures in
+pub returns-in-Err : goal.returns-in-Err
+returns-in-Err c =
+    let e = c.sheet_with.ensures in
     let p = c.put_refusal.ensures in
     let f = front_of _ _ _ _ p.text_after (omega (arith, p.refusal_len_bound)) in
-    ((f.0, sym (length-take-le _ _ f.0)), f.1 ∙ sheet_refuses _ (file_priced c.args.prices.now) c.args.log.now c.args.text.now c.requires _ (sym e.value ∙ c.in-Refused.is))
+    ((f.0, sym (length-take-le _ _ f.0)), f.1 ∙ sheet_refuses _ (file_priced c.args.prices.now) c.args.log.now c.args.text.now c.requires _ (sym e.value ∙ c.in-Err.is))

@@ -17,4 +17,4 @@ at_front o x e l =
 pub returns : goal.returns
 returns c =
     let o = c.args.bytes.now in
-    at_front o _ (c.copy.ensures ∙ ap (λ (x : List ℕ). splice 0 x o) c.built_in-table.ensures) c.requires
+    at_front o _ (c.copy.ensures ∙ ap (λ (x : List ℕ). splice 0 x o) c.built_in.ensures) c.requires

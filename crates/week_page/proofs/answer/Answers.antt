@@ -4,16 +4,16 @@ use Rattle.week.specs.OutputLaws.{page_stands, page_refuses}
 use Rattle.week_page.proofs.answer.Goals as goal
 
 -- the page
-pub returns-in-Length : goal.returns-in-Length
-returns-in-Length c =
-    let e = c.page-printed.ensures in
-    let f = page_stands _ c.args.log.now c.args.text.now c.requires _ _ (sym e.value ∙ c.in-Length.is) e.text_after in
-    rw c.size_from_u64.ensures.0 ((f.0, sym (length-take-le _ _ f.0)), f.1)
+pub returns-in-Ok : goal.returns-in-Ok
+returns-in-Ok c =
+    let e = c.page.ensures in
+    let f = page_stands _ c.args.log.now c.args.text.now c.requires _ _ (sym e.value ∙ c.in-Ok.is) e.text_after in
+    ((f.0, sym (length-take-le _ _ f.0)), f.1)
 
 -- the line of a refusal
-pub returns-in-Refused : goal.returns-in-Refused
-returns-in-Refused c =
-    let e = c.page-printed.ensures in
+pub returns-in-Err : goal.returns-in-Err
+returns-in-Err c =
+    let e = c.page.ensures in
     let p = c.put_refusal.ensures in
     let f = front_of _ _ _ _ p.text_after (omega (arith, p.refusal_len_bound)) in
-    ((f.0, sym (length-take-le _ _ f.0)), f.1 ∙ page_refuses _ c.args.log.now c.args.text.now c.requires _ (sym e.value ∙ c.in-Refused.is))
+    ((f.0, sym (length-take-le _ _ f.0)), f.1 ∙ page_refuses _ c.args.log.now c.args.text.now c.requires _ (sym e.value ∙ c.in-Err.is))

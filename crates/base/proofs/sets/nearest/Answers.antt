@@ -36,7 +36,7 @@ pub overflow_sub-result-then-behind-ahead : goal.overflow_sub-result-then-behind
 overflow_sub-result-then-behind-ahead c =
     omega (
       arith,
-      c.u32_from_u16-at.ensures.0,
+      c.from-at.ensures,
       below_nearest 64 c.args.t (63 - c.args.t) c.args.w (omega (arith, c.if-t-ge64.false)) c.ranges.w.fits (omega (arith, c.lowest-ahead.ensures, c.if-behind-ahead.true)),
     )
 
@@ -44,7 +44,7 @@ pub returns-then-behind-ahead : goal.returns-then-behind-ahead
 returns-then-behind-ahead c =
     omega (
       arith,
-      c.u32_from_u16-at.ensures.0,
+      c.from-at.ensures,
       below_nearest 64 c.args.t (63 - c.args.t) c.args.w (omega (arith, c.if-t-ge64.false)) c.ranges.w.fits (omega (arith, c.lowest-ahead.ensures, c.if-behind-ahead.true)),
     )
 
@@ -55,6 +55,6 @@ overflow_add-result c =
 
 pub returns : goal.returns
 returns c =
-    rw (c.u32_from_u16-at.ensures.0, c.lowest-ahead.ensures)
+    rw (c.from-at.ensures, c.lowest-ahead.ensures)
     (sym (from_nearest 64 c.args.t (63 - c.args.t) c.args.w (omega (arith, c.if-t-ge64.false)) c.ranges.w.fits
     (omega (arith, c.if-w-eq0.false)) (omega (arith, c.lowest-ahead.ensures, c.if-behind-ahead.false))))

@@ -1,7 +1,6 @@
 -- `checker::checking::counted` meets its contract. Assumes nothing.
 use borrow.Author.Rules.{rules}
 use mathlib.Core.Path.{◌≡◌, refl, ◌∙◌}
-use Prim.Native.Nat.{◌≤◌, ◌-◌}
 use native.Mathlib.Omega.{arith}
 use Rattle.model.specs.Sums.{total}
 use Rattle.model.specs.Schedule.{length_of, is_transfer, is_upload}
@@ -12,26 +11,25 @@ use Rattle.checker.proofs.checking.counted.Goals as goal
 
 pub loop-i-init : goal.loop-i-init
 unfolding rows_upto total
-loop-i-init c = (search rules, refl, refl, refl)
+loop-i-init c = (refl, refl, refl)
 
 pub with_row-s-requires : goal.with_row-s-requires
 unfolding row_count
 with_row-s-requires c =
     let ns = c.args.ns.now in
     let l = c.loop-i in (
-      omega (arith, total_within length_of ns l.i _ _ (search rules) c.row.ensures l.invariant.1),
-      omega (arith, total_within is_transfer ns l.i _ _ (search rules) c.row.ensures l.invariant.2),
-      omega (arith, total_within is_upload ns l.i _ _ (search rules) c.row.ensures l.invariant.3),
+      omega (arith, total_within length_of ns l.i _ _ (search rules) c.row.ensures l.invariant.0),
+      omega (arith, total_within is_transfer ns l.i _ _ (search rules) c.row.ensures l.invariant.1),
+      omega (arith, total_within is_upload ns l.i _ _ (search rules) c.row.ensures l.invariant.2),
     )
 
 pub loop-i-preserved : goal.loop-i-preserved
 loop-i-preserved c =
     let ns = c.args.ns.now in
     let l = c.loop-i in (
-      search rules,
-      c.with_row-s.ensures.0 ∙ total_read length_of ns l.i _ _ c.row.ensures l.invariant.1,
-      c.with_row-s.ensures.1 ∙ total_read is_transfer ns l.i _ _ c.row.ensures l.invariant.2,
-      c.with_row-s.ensures.2 ∙ total_read is_upload ns l.i _ _ c.row.ensures l.invariant.3,
+      c.with_row-s.ensures.0 ∙ total_read length_of ns l.i _ _ c.row.ensures l.invariant.0,
+      c.with_row-s.ensures.1 ∙ total_read is_transfer ns l.i _ _ c.row.ensures l.invariant.1,
+      c.with_row-s.ensures.2 ∙ total_read is_upload ns l.i _ _ c.row.ensures l.invariant.2,
     )
 
 pub returns : goal.returns
@@ -40,4 +38,4 @@ returns c =
     let ns = c.args.ns.now in
     let l = c.loop-i in
     let e : l.i ≡ row_count ns = omega arith in
-    rw (← e) (l.invariant.1, l.invariant.2, l.invariant.3)
+    rw (← e) (l.invariant.0, l.invariant.1, l.invariant.2)

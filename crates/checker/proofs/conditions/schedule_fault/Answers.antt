@@ -1,71 +1,68 @@
 -- `checker::conditions::schedule_fault` meets its contract. Assumes nothing.
-use borrow.Author.Rules.{rules}
 use mathlib.Core.Path.{◌∙◌}
-use borrow.Author.Tests.{eq-eqb, ne_eqb}
-use Rattle.base.specs.Refusals.{first}
+use Rattle.std.proofs.lemmas.Result.{err_from_is_err_and}
 use Rattle.request_log.specs.Fields.{server_count_of, home_of, request_count}
 use Rattle.checker.specs.QuickParts.{schedule_parts, row_part_read, copy_part_read}
 use Rattle.checker.specs.QuickTests.{in_order}
 use Rattle.checker.proofs.conditions.schedule_fault.Goals as goal
 
-pub returns-then-ns-ne0 : goal.returns-then-ns-ne0
-unfolding first
-returns-then-ns-ne0 c =
+pub returns-in_err-refuse_if : goal.returns-in_err-refuse_if
+returns-in_err-refuse_if c =
     let a = c.args in
-    rw (schedule_parts a.given a.log.now a.ns.now, ne_eqb _ _ c.if-ns-ne0.true)
+    let p = err_from_is_err_and c.from_residual.result c.from_residual.ensures.1 in
+    rw (p.1, p.2, schedule_parts a.given a.log.now a.ns.now, ← c.in_err-refuse_if.ensures)
 
-pub returns-in-Refused : goal.returns-in-Refused
-unfolding first server_count_of request_count
-returns-in-Refused c =
+pub returns-in_err-rows_fault : goal.returns-in_err-rows_fault
+unfolding server_count_of request_count
+returns-in_err-rows_fault c =
     let a = c.args in
+    let p = err_from_is_err_and c.from_residual-in_err-rows_fault.result c.from_residual-in_err-rows_fault.ensures.1 in
     rw (
+      p.1,
+      p.2,
       schedule_parts a.given a.log.now a.ns.now,
-      eq-eqb _ _ c.if-ns-ne0.false,
-      row_part_read a.given a.log.now a.ns.now _ _ _ _ (c.u32_from_u8-count.ensures.0 ∙ c.at.ensures) c.at16.ensures c.last_second.ensures c.rows_fault-v.ensures,
-      c.in-Refused.is,
+      ← c.in_ok-refuse_if.ensures,
+      row_part_read a.given a.log.now a.ns.now _ _ _ _ (c.from-count.ensures ∙ c.at.ensures) c.at16.ensures c.last_second.ensures c.in_err-rows_fault.ensures,
     )
 
-pub copies_fault-v-requires : goal.copies_fault-v-requires
+pub invariant_of-rows : goal.invariant_of-rows
 unfolding server_count_of request_count
-copies_fault-v-requires c =
-    let count = c.u32_from_u8-count.ensures.0 ∙ c.at.ensures in
-    in_order c.args.log.now c.args.ns.now c.requires c.args.given
-    (row_part_read c.args.given c.args.log.now c.args.ns.now _ _ _ _ count c.at16.ensures c.last_second.ensures c.rows_fault-v.ensures ∙ c.in_default.is)
-
-pub returns-in-Refused-v : goal.returns-in-Refused-v
-unfolding first server_count_of request_count home_of
-returns-in-Refused-v c =
+invariant_of-rows c =
     let a = c.args in
-    let count = c.u32_from_u8-count.ensures.0 ∙ c.at.ensures in
+    let count = c.from-count.ensures ∙ c.at.ensures in
+    record {
+      in_order = in_order a.log.now a.ns.now c.requires a.given
+          (row_part_read a.given a.log.now a.ns.now _ _ _ _ count c.at16.ensures c.last_second.ensures c.in_ok-rows_fault.ensures);
+    }
+
+pub returns-in_err-copies_fault : goal.returns-in_err-copies_fault
+unfolding server_count_of request_count home_of
+returns-in_err-copies_fault c =
+    let a = c.args in
+    let count = c.from-count.ensures ∙ c.at.ensures in
+    let p = err_from_is_err_and c.from_residual-in_err-copies_fault.result c.from_residual-in_err-copies_fault.ensures.1 in
     rw (
+      p.1,
+      p.2,
       schedule_parts a.given a.log.now a.ns.now,
-      eq-eqb _ _ c.if-ns-ne0.false,
-      row_part_read a.given a.log.now a.ns.now _ _ _ _ count c.at16.ensures c.last_second.ensures c.rows_fault-v.ensures,
-      c.in_default.is,
-      copy_part_read a.log.now a.ns.now _ _ _ count (c.u32_from_u8.ensures.0 ∙ c.at-2.ensures) c.copies_fault-v.ensures,
-      c.in-Refused-v.is,
+      ← c.in_ok-refuse_if.ensures,
+      row_part_read a.given a.log.now a.ns.now _ _ _ _ count c.at16.ensures c.last_second.ensures c.in_ok-rows_fault.ensures,
+      copy_part_read a.log.now a.ns.now _ _ _ count (c.from.ensures ∙ c.at-2.ensures) c.in_err-copies_fault.ensures,
     )
 
 pub requests_fault-requires : goal.requests_fault-requires
-unfolding server_count_of request_count
-requests_fault-requires c =
-    let count = c.u32_from_u8-count.ensures.0 ∙ c.at.ensures in (
-      in_order c.args.log.now c.args.ns.now c.requires c.args.given
-          (row_part_read c.args.given c.args.log.now c.args.ns.now _ _ _ _ count c.at16.ensures c.last_second.ensures c.rows_fault-v.ensures ∙ c.in_default.is),
-      c.requires.length_is,
-    )
+unfolding server_count_of home_of
+requests_fault-requires c = (c.from-count.ensures ∙ c.at.ensures, c.from.ensures ∙ c.at-2.ensures, c.requires.length_is)
 
 pub returns : goal.returns
-unfolding first server_count_of request_count home_of
+unfolding server_count_of request_count home_of
 returns c =
     let a = c.args in
-    let count = c.u32_from_u8-count.ensures.0 ∙ c.at.ensures in
+    let count = c.from-count.ensures ∙ c.at.ensures in
     rw (
       schedule_parts a.given a.log.now a.ns.now,
-      eq-eqb _ _ c.if-ns-ne0.false,
-      row_part_read a.given a.log.now a.ns.now _ _ _ _ count c.at16.ensures c.last_second.ensures c.rows_fault-v.ensures,
-      c.in_default.is,
-      copy_part_read a.log.now a.ns.now _ _ _ count (c.u32_from_u8.ensures.0 ∙ c.at-2.ensures) c.copies_fault-v.ensures,
-      c.in_default-v.is,
+      ← c.in_ok-refuse_if.ensures,
+      row_part_read a.given a.log.now a.ns.now _ _ _ _ count c.at16.ensures c.last_second.ensures c.in_ok-rows_fault.ensures,
+      copy_part_read a.log.now a.ns.now _ _ _ count (c.from.ensures ∙ c.at-2.ensures) c.in_ok-copies_fault.ensures,
     )
     c.requests_fault.ensures

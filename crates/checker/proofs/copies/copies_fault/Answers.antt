@@ -1,24 +1,32 @@
 -- `checker::copies::copies_fault` meets its contract. Assumes nothing.
-use borrow.Author.Rules.{rules}
-use Rattle.checker.specs.CopySteps.{copy_parts}
-use Rattle.checker.specs.Quick.{first_upload}
+use Rattle.std.proofs.lemmas.Result.{err_from_is_err_and}
+use Rattle.checker.specs.CopySteps.{copy_parts, unbacked_most}
 use Rattle.checker.specs.Search.{second_key}
 use Rattle.checker.specs.SearchLaws.{position_most}
 use Rattle.checker.proofs.copies.copies_fault.Goals as goal
 
-pub scan-low-requires : goal.scan-low-requires
-unfolding first_upload
-scan-low-requires c = (search rules, c.from_upload-uploads.ensures)
+pub holds_fault-requires : goal.holds_fault-requires
+holds_fault-requires c = rw c.from_second-holds.ensures (position_most c.args.s.now.rows.ns.now (second_key 0))
 
-pub holds_fault-v-requires : goal.holds_fault-v-requires
-holds_fault-v-requires c = (search rules, rw c.from_second-holds.ensures (position_most c.args.ns.now (second_key 0)))
-
-pub returns-in-Refused : goal.returns-in-Refused
-returns-in-Refused c =
+pub returns-in_err-holds_fault : goal.returns-in_err-holds_fault
+returns-in_err-holds_fault c =
     let a = c.args in
-    rw (copy_parts a.count a.home a.ns.now _ _ _ _ c.from_second-holds.ensures c.from_upload-uploads.ensures c.scan-low.ensures.0 c.scan-low.ensures.1, ← c.holds_fault-v.ensures, c.in-Refused.is)
+    let p = err_from_is_err_and c.from_residual.result c.from_residual.ensures.1 in
+    rw (
+      p.1,
+      p.2,
+      copy_parts a.s.now.count a.s.now.home a.s.now.rows.ns.now _ _ _ _ c.from_second-holds.ensures c.args.s.now.first c.scan-faults.ensures.0 c.scan-faults.ensures.1,
+      ← c.in_err-holds_fault.ensures,
+    )
+
+pub transfer_fault-requires : goal.transfer_fault-requires
+transfer_fault-requires c = rw c.scan-faults.ensures.1 (unbacked_most _ _ _ _ _)
 
 pub returns : goal.returns
 returns c =
     let a = c.args in
-    rw (copy_parts a.count a.home a.ns.now _ _ _ _ c.from_second-holds.ensures c.from_upload-uploads.ensures c.scan-low.ensures.0 c.scan-low.ensures.1, ← c.holds_fault-v.ensures, c.in_default.is) c.transfer_fault.ensures
+    rw (
+      copy_parts a.s.now.count a.s.now.home a.s.now.rows.ns.now _ _ _ _ c.from_second-holds.ensures c.args.s.now.first c.scan-faults.ensures.0 c.scan-faults.ensures.1,
+      ← c.in_ok-holds_fault.ensures,
+    )
+    c.transfer_fault.ensures

@@ -1,5 +1,4 @@
 -- `checker::search::key` meets its contract. Assumes nothing.
-use borrow.Author.Rules.{rules}
 use native.Mathlib.Omega.{arith}
 use Rattle.rows.specs.ReadingLaws.{row_hold}
 use Rattle.checker.specs.Search.{key, hold_key}
@@ -13,5 +12,5 @@ returns-then-r-eq0 c = rw (row_hold _ _ _ _ c.if-r-eq0.true) (omega arith)
 pub returns : goal.returns
 returns c =
     let r = c.args.r in
-    rw (c.base.ensures.0, c.u64_from_u32-2.ensures.0, c.second.ensures, c.u64_from_u32-3.ensures.0, c.u64_from_u32-4.ensures.0)
+    rw (c.base.ensures.0, c.from-2.ensures, c.second.ensures, c.from-3.ensures, c.from-4.ensures)
     (move_key r.kind r.a r.b r.c c.if-r-eq0.false)

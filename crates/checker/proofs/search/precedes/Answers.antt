@@ -1,17 +1,14 @@
 -- `checker::search::precedes` meets its contract. Assumes nothing.
-use borrow.Author.Rules.{rules}
-use mathlib.Core.Path.{sym}
+use mathlib.Core.Path.{sym, ◌∙◌}
+use borrow.Author.Tests.{le-ltb}
 use Rattle.model.specs.Checking.{row_count}
 use Rattle.checker.specs.SearchLaws.{place_tells, past_after}
 use Rattle.checker.proofs.search.precedes.Goals as goal
 
-pub returns-then-ns-i : goal.returns-then-ns-i
+pub returns-then-i-rows : goal.returns-then-i-rows
 unfolding row_count
-returns-then-ns-i c =
-    let a = c.args in
-    sym (past_after a.ns.now a.k a.i c.if-ns-i.true)
+returns-then-i-rows c = place_tells c.args.rows.ns.now c.args.rows.in_order c.args.k c.args.i _ _ c.if-i-rows.true c.row.ensures c.key.ensures
 
-pub returns : goal.returns
+pub returns-else-i-rows : goal.returns-else-i-rows
 unfolding row_count
-returns c =
-    place_tells c.args.ns.now c.requires c.args.k c.args.i _ _ c.if-ns-i.false c.row.ensures c.key.ensures
+returns-else-i-rows c = le-ltb _ _ c.if-i-rows.false ∙ sym (past_after c.args.rows.ns.now c.args.k c.args.i c.if-i-rows.false)

@@ -8,14 +8,10 @@ pub returns-then-x-ge64 : goal.returns-then-x-ge64
 returns-then-x-ge64 c =
     (search rules, search rules, skips_high c.args.some c.args.x c.args.count c.ranges.some.fits c.if-x-ge64.true)
 
-pub overflow_add-y : goal.overflow_add-y
-overflow_add-y c =
+pub overflow_add-x : goal.overflow_add-x
+overflow_add-x c =
     let m : c.lowest.result ≤ 64 = lowest_most _ _ c.lowest.ensures in
     search rules
-
-pub returns-then-y-count : goal.returns-then-y-count
-returns-then-y-count c =
-    (search rules, search rules, skips_lowest c.args.some c.args.x _ _ c.lowest.ensures (search rules))
 
 pub returns : goal.returns
 returns c =

@@ -9,7 +9,7 @@ overflow_add-span c =
 
 pub overflow_sub-span : goal.overflow_sub-span
 overflow_sub-span c =
-    omega (arith, c.requires.1.past c.args.from, c.now_of.ensures, c.of_four-since.ensures)
+    omega (arith, c.requires.1.past c.args.from, c.now_of.ensures, c.at-since.ensures)
 
 pub paid-requires : goal.paid-requires
 paid-requires c =
@@ -17,8 +17,8 @@ paid-requires c =
 
 pub overflow_add-result : goal.overflow_add-result
 overflow_add-result c =
-    record { fits = omega (arith, c.paid.ensures.upper_bound, c.requires.1.now_most, c.requires.3, c.now_of.ensures, c.requires.1.costs_most c.lesser.result) }
+    record { fits = omega (arith, c.paid.ensures.upper_bound, c.requires.1.now_most, c.requires.3, c.now_of.ensures, c.requires.1.costs_most c.min.result) }
 
 pub returns : goal.returns
 unfolding kept_cost
-returns c = rw (c.paid.ensures.value, c.now_of.ensures, c.of_four-since.ensures, c.of_four-before.ensures, c.lesser.ensures)
+returns c = rw (c.paid.ensures.value, c.now_of.ensures, c.at-since.ensures, c.at-before.ensures, c.min.ensures)

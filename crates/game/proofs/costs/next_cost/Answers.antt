@@ -13,4 +13,4 @@ returns-then-from-board c = rw (ne_eqb _ _ c.if-from-eq4.false, eq-eqb _ _ c.if-
 
 pub returns : goal.returns
 unfolding next_cost
-returns c = rw (ne_eqb _ _ c.if-from-eq4.false, ne_eqb _ _ c.if-from-board.false, c.lesser.ensures, c.sent_cost-2.ensures, c.kept_cost-2.ensures)
+returns c = rw (ne_eqb _ _ c.if-from-eq4.false, ne_eqb _ _ c.if-from-board.false, c.min.ensures, c.sent_cost-2.ensures, c.kept_cost-2.ensures)

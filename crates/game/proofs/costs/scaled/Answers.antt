@@ -9,9 +9,9 @@ overflow_mul-result c =
       fits =
           omega (
             arith,
-            mul-le-mul {n₁ = c.u64_from_u32.result} {m₁ = c.u64_from_u32-2.result} {n₂ = 1000} {m₂ = 40000000} (omega (arith, c.requires.0)) (omega (arith, c.requires.1)),
+            mul-le-mul {n₁ = c.from.result} {m₁ = c.from-2.result} {n₂ = 1000} {m₂ = 40000000} (omega (arith, c.requires.0)) (omega (arith, c.requires.1)),
           );
     }
 
 pub returns : goal.returns
-returns c = rw (c.u64_from_u32.ensures.0, c.u64_from_u32-2.ensures.0)
+returns c = rw (c.from.ensures, c.from-2.ensures)

@@ -14,16 +14,16 @@ overflow_add-result c =
 
 pub overflow_add-result-then-board-c : goal.overflow_add-result-then-board-c
 overflow_add-result-then-board-c c =
-    record { fits = omega (arith, c.requires.0.priced.transfer_most, c.paid.ensures.upper_bound, c.requires.3, c.requires.1.costs_most c.lesser.result) }
+    record { fits = omega (arith, c.requires.0.priced.transfer_most, c.paid.ensures.upper_bound, c.requires.3, c.requires.1.costs_most c.min.result) }
 
 pub returns-then-board-c : goal.returns-then-board-c
 unfolding sent_cost
-returns-then-board-c c = rw (lt-ltb _ _ c.if-board-c.true, c.of_four-before.ensures, c.lesser.ensures, c.paid.ensures.value)
+returns-then-board-c c = rw (lt-ltb _ _ c.if-board-c.true, c.at-before.ensures, c.min.ensures, c.paid.ensures.value)
 
 pub overflow_add-result-2 : goal.overflow_add-result-2
 overflow_add-result-2 c =
-    record { fits = omega (arith, c.requires.0.priced.transfer_most, c.requires.1.costs_most c.lesser.result) }
+    record { fits = omega (arith, c.requires.0.priced.transfer_most, c.requires.1.costs_most c.min.result) }
 
 pub returns : goal.returns
 unfolding sent_cost
-returns c = rw (le-ltb _ _ c.if-board-c.false, c.of_four-before.ensures, c.lesser.ensures)
+returns c = rw (le-ltb _ _ c.if-board-c.false, c.at-before.ensures, c.min.ensures)

@@ -1,5 +1,5 @@
 -- `game::playing::beyond` meets its contract. Assumes nothing.
-use borrow.Author.Tests.{lt-ltb, le-ltb}
+use Rattle.std.proofs.Common.{lt-ltb, le-ltb}
 use Rattle.game.specs.Answers.{beyond}
 use Rattle.game.proofs.playing.beyond.Goals as goal
 
@@ -7,6 +7,6 @@ pub returns-then-x-lt1 : goal.returns-then-x-lt1
 unfolding beyond
 returns-then-x-lt1 c = rw (lt-ltb _ _ c.if-x-lt1.true)
 
-pub returns : goal.returns
+pub returns-else-x-lt1 : goal.returns-else-x-lt1
 unfolding beyond
-returns c = rw (le-ltb _ _ c.if-x-lt1.false)
+returns-else-x-lt1 c = rw (le-ltb _ _ c.if-x-lt1.false)

@@ -6,4 +6,4 @@ use Rattle.game.proofs.rounds.moved.Goals as goal
 
 pub returns : goal.returns
 unfolding moved build
-returns c = rw (c.now_of.ensures, c.here.ensures, c.here-2.ensures, c.here-3.ensures, c.holding_all.ensures.value, c.sends.ensures.value, c.next_costs-costs.ensures, c.size_from_u32-at.ensures.0, add-one)
+returns c = rw (c.now_of.ensures, c.here.ensures, c.here-2.ensures, c.here-3.ensures, c.holding_all.ensures.value, c.sends.ensures.value, c.next_costs-costs.ensures, add-one)

@@ -12,7 +12,7 @@ use Rattle.game.proofs.turns.+asks_beats_guest_keeper.Goals as goal
 
 pub asks-loop-x-init : goal.asks-loop-x-init
 unfolding some_below
-asks-loop-x-init t c = (omega arith, refl)
+asks-loop-x-init t c = refl
 
 pub asks-returns-then-beats : goal.asks-returns-then-beats
 asks-returns-then-beats t c =
@@ -22,11 +22,9 @@ asks-returns-then-beats t c =
 pub asks-loop-x-preserved : goal.asks-loop-x-preserved
 asks-loop-x-preserved t c =
     let a = c.args in
-    let l = c.loop-x in (
-      omega (arith, c.loop-x-test.true),
-      rw (add-one l.x)
-          (below_next l.x (beats a.game (shown a.board) (stays_in a.stays) a.left (a.i + 1)) l.invariant.1 (sym c.beats.ensures ∙ c.if-beats.false)),
-    )
+    let l = c.loop-x in
+    rw (add-one l.x)
+    (below_next l.x (beats a.game (shown a.board) (stays_in a.stays) a.left (a.i + 1)) l.invariant (sym c.beats.ensures ∙ c.if-beats.false))
 
 pub beats-returns-then-left-eq0 : goal.beats-returns-then-left-eq0
 beats-returns-then-left-eq0 t c =
@@ -58,7 +56,7 @@ beats-returns t c =
 
 pub guest-loop-i-init : goal.guest-loop-i-init
 unfolding some_below
-guest-loop-i-init t c = (omega arith, refl)
+guest-loop-i-init t c = refl
 
 pub guest-returns-then-asks : goal.guest-returns-then-asks
 guest-returns-then-asks t c =
@@ -68,28 +66,26 @@ guest-returns-then-asks t c =
 pub guest-loop-i-preserved : goal.guest-loop-i-preserved
 guest-loop-i-preserved t c =
     let a = c.args in
-    let l = c.loop-i in (
-      omega (arith, c.loop-i-test.true),
-      rw (add-one l.i)
-          (below_next l.i (asking a.game (shown a.board) (stays_in a.stays) a.left) l.invariant.1 (sym c.asks.ensures ∙ c.if-asks.false)),
-    )
+    let l = c.loop-i in
+    rw (add-one l.i)
+    (below_next l.i (asking a.game (shown a.board) (stays_in a.stays) a.left) l.invariant (sym c.asks.ensures ∙ c.if-asks.false))
 
 pub guest-returns : goal.guest-returns
 guest-returns t c =
     let a = c.args in
     let l = c.loop-i in
-    let e : l.i ≡ a.game.largest = omega (arith, c.loop-i-test.false, l.invariant.0) in
-    sym (guest_gaps a.game (shown a.board) (stays_in a.stays) a.left ∙ (rw e at l.invariant.1))
+    let e : l.i ≡ a.game.largest = omega (arith, c.loop-i-test.false) in
+    sym (guest_gaps a.game (shown a.board) (stays_in a.stays) a.left ∙ (rw e at l.invariant))
 
 pub keeper-loop-k-init : goal.keeper-loop-k-init
 unfolding some_below
-keeper-loop-k-init t c = (omega arith, refl)
+keeper-loop-k-init t c = refl
 
 pub keeper-guest-requires : goal.keeper-guest-requires
 keeper-guest-requires t c =
     let a = c.args in
     let p = c.requires in
-    let in_all : c.loop-k.k < settings a.game a.board = omega (arith, c.loop-k-test.true, c.settings-count.ensures.value) in (
+    let in_all : c.loop-k.k < settings a.game a.board = omega (arith, c.loop-k-test.true, c.settings-k-end.ensures.value) in (
       omega (arith, c.decreases, p.2),
       (
         record {
@@ -106,22 +102,20 @@ pub keeper-returns-then-not-guest : goal.keeper-returns-then-not-guest
 keeper-returns-then-not-guest t c =
     let a = c.args in
     let p = c.requires in
-    let in_all : c.loop-k.k < settings a.game a.board = omega (arith, c.loop-k-test.true, c.settings-count.ensures.value) in
+    let in_all : c.loop-k.k < settings a.game a.board = omega (arith, c.loop-k-test.true, c.settings-k-end.ensures.value) in
     sym (keeper_settings a.game a.board p.0 p.1 a.left p.2 ∙ below_one (settings a.game a.board) (found a.game a.board (a.left - 1)) c.loop-k.k in_all (ap not (ap (λ (s : List ℕ). guest_wins a.game (shown a.board) (stays_in s) (keeper_wins a.game (a.left - 1))) (sym c.setting.ensures) ∙ (sym c.guest.ensures ∙ c.if-not-guest.true))))
 
 pub keeper-loop-k-preserved : goal.keeper-loop-k-preserved
 keeper-loop-k-preserved t c =
     let a = c.args in
-    let l = c.loop-k in (
-      omega (arith, c.loop-k-test.true),
-      rw (add-one l.k)
-          (below_next l.k (found a.game a.board (a.left - 1)) l.invariant.1 (ap not (ap (λ (s : List ℕ). guest_wins a.game (shown a.board) (stays_in s) (keeper_wins a.game (a.left - 1))) (sym c.setting.ensures) ∙ (sym c.guest.ensures ∙ c.if-not-guest.false)))),
-    )
+    let l = c.loop-k in
+    rw (add-one l.k)
+    (below_next l.k (found a.game a.board (a.left - 1)) l.invariant (ap not (ap (λ (s : List ℕ). guest_wins a.game (shown a.board) (stays_in s) (keeper_wins a.game (a.left - 1))) (sym c.setting.ensures) ∙ (sym c.guest.ensures ∙ c.if-not-guest.false))))
 
 pub keeper-returns : goal.keeper-returns
 keeper-returns t c =
     let a = c.args in
     let p = c.requires in
     let l = c.loop-k in
-    let e : l.k ≡ settings a.game a.board = omega (arith, c.loop-k-test.false, l.invariant.0, c.settings-count.ensures.value) in
-    sym (keeper_settings a.game a.board p.0 p.1 a.left p.2 ∙ (rw e at l.invariant.1))
+    let e : l.k ≡ settings a.game a.board = omega (arith, c.loop-k-test.false, c.settings-k-end.ensures.value) in
+    sym (keeper_settings a.game a.board p.0 p.1 a.left p.2 ∙ (rw e at l.invariant))

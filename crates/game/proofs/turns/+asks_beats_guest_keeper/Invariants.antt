@@ -1,5 +1,5 @@
 -- The measures of the turns, which call each other, and what their loops keep.
-use Rattle.std.proofs.Common.{◌≡◌, ◌+◌, ◌-◌, ◌*◌, ◌≤◌, false}
+use Rattle.std.proofs.Common.{◌≡◌, ◌+◌, ◌-◌, ◌*◌, false}
 use Rattle.base.specs.Below.{some_below}
 use Rattle.game.specs.Boards.{shown, stays_in}
 use Rattle.game.specs.TurnLaws.{beats, asking, found}
@@ -18,19 +18,10 @@ abbrev pub decreases-keeper : goal.decreases-keeper
 decreases-keeper l = 4 * l.left
 
 abbrev pub invariant-asks-loop-x : goal.invariant-asks-loop-x
-invariant-asks-loop-x l = (l.x ≤ l.game.servers) × (some_below l.x (beats l.game (shown l.board) (stays_in l.stays) l.left (l.i + 1)) ≡ false)
-
-abbrev pub decreases-asks-loop-x : goal.decreases-asks-loop-x
-decreases-asks-loop-x l = l.game.servers - l.x
+invariant-asks-loop-x l = some_below l.x (beats l.game (shown l.board) (stays_in l.stays) l.left (l.i + 1)) ≡ false
 
 abbrev pub invariant-guest-loop-i : goal.invariant-guest-loop-i
-invariant-guest-loop-i l = (l.i ≤ l.game.largest) × (some_below l.i (asking l.game (shown l.board) (stays_in l.stays) l.left) ≡ false)
-
-abbrev pub decreases-guest-loop-i : goal.decreases-guest-loop-i
-decreases-guest-loop-i l = l.game.largest - l.i
+invariant-guest-loop-i l = some_below l.i (asking l.game (shown l.board) (stays_in l.stays) l.left) ≡ false
 
 abbrev pub invariant-keeper-loop-k : goal.invariant-keeper-loop-k
-invariant-keeper-loop-k l = (l.k ≤ l.count) × (some_below l.k (found l.game l.board (l.left - 1)) ≡ false)
-
-abbrev pub decreases-keeper-loop-k : goal.decreases-keeper-loop-k
-decreases-keeper-loop-k l = l.count - l.k
+invariant-keeper-loop-k l = some_below l.k (found l.game l.board (l.left - 1)) ≡ false

@@ -54,20 +54,20 @@ pub offset_bounds-allowed-at : goal.offset_bounds-allowed-at
 offset_bounds-allowed-at c =
     let a = c.args in
     let T = c.requires.0 in
-    record { fits = omega (arith, c.size_from_u32-at.ensures.0, c.requires.2.most_gap, c.requires.2.counted, T.ranged.largest_most, T.ranged.servers_most) }
+    record { fits = omega (arith, c.requires.2.most_gap, c.requires.2.counted, T.ranged.largest_most, T.ranged.servers_most) }
 
 pub bounds-allowed-at : goal.bounds-allowed-at
 bounds-allowed-at c =
     let a = c.args in
     let T = c.requires.0 in
-    omega (arith, c.size_from_u32-at.ensures.0, c.requires.2.most_gap, c.requires.2.counted, T.ranged.largest_most, T.ranged.servers_most)
+    omega (arith, c.requires.2.most_gap, c.requires.2.counted, T.ranged.largest_most, T.ranged.servers_most)
 
 pub overflow_add-result : goal.overflow_add-result
 overflow_add-result c =
     let a = c.args in
     let T = c.requires.0 in
-    let here : get_or a.allowed.now c.size_from_u32-at.result 0 ≡ limit a.game a.board a.x =
-    rw (c.size_from_u32-at.ensures.0, T.allows) (limit_at a.game a.board a.x (omega (arith, c.requires.2.most_gap, c.requires.2.counted, T.ranged.largest_most, T.ranged.servers_most))) in
+    let here : get_or a.allowed.now a.x 0 ≡ limit a.game a.board a.x =
+    rw (T.allows) (limit_at a.game a.board a.x (omega (arith, c.requires.2.most_gap, c.requires.2.counted, T.ranged.largest_most, T.ranged.servers_most))) in
     let gap = mul-le-mul {n₁ = a.game.p} {m₁ = c.paid-2.result} {n₂ = 1000} {m₂ = 3000000} T.ranged.p_most (omega (arith, c.paid-2.ensures.upper_bound, c.requires.2.most_gap, c.requires.2.counted, T.ranged.largest_most, T.ranged.servers_most)) in
     record { fits = omega (arith, here, limit_most a.game a.board T.ranged T.fits c.requires.1 a.x, c.scaled-gap.ensures, gap) }
 
@@ -75,7 +75,7 @@ pub returns : goal.returns
 returns c =
     let a = c.args in
     let T = c.requires.0 in
-    let here : get_or a.allowed.now c.size_from_u32-at.result 0 ≡ limit a.game a.board a.x =
-    rw (c.size_from_u32-at.ensures.0, T.allows) (limit_at a.game a.board a.x (omega (arith, c.requires.2.most_gap, c.requires.2.counted, T.ranged.largest_most, T.ranged.servers_most))) in
+    let here : get_or a.allowed.now a.x 0 ≡ limit a.game a.board a.x =
+    rw (T.allows) (limit_at a.game a.board a.x (omega (arith, c.requires.2.most_gap, c.requires.2.counted, T.ranged.largest_most, T.ranged.servers_most))) in
     rw (c.scaled.ensures, c.scaled-gap.ensures, c.paid-2.ensures.value, c.paid.ensures.value, c.sends.ensures.value, c.requires.3, here)
     (limit_holds a.game a.board a.stays (a.i + 1) a.x T.ranged T.fits T.set c.requires.1 c.requires.2)

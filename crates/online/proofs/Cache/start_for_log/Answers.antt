@@ -1,7 +1,6 @@
 -- `online::Cache::start_for_log` meets its contract. Assumes nothing.
 use Rattle.online.specs.StartLaws.{log_start_made}
-use borrow.Author.Rules.{rules}
 use Rattle.online.proofs.Cache.start_for_log.Goals as goal
 
 pub returns : goal.returns
-returns c = log_start_made _ _ _ _ _ (rw c.setup_in.ensures at c.setup_fault-fault.ensures) (c.given.ensures _ c.of_class.ensures)
+returns c = log_start_made _ _ _ _ (rw c.setup_in.ensures at c.setup_fault-fault.ensures) (c.given.ensures _ c.of_class.ensures)

@@ -1,11 +1,12 @@
 -- `planner::costs::least` meets its contract. Assumes nothing.
-use Rattle.prices.specs.FileLaws.{built_in_given, built_in_priced}
+use mathlib.Core.Path.{sym, subst}
+use Rattle.prices.specs.PriceLaws.{Priced, classes_ranged}
 use Rattle.prices.specs.Uploads.{if_given}
 use Rattle.planner.proofs.costs.least.Goals as goal
 
 pub least_by-requires : goal.least_by-requires
-least_by-requires c = built_in_priced _ c.built_in-prices.ensures
+least_by-requires c = subst Priced (sym c.built_in.ensures) (λ e. classes_ranged)
 
 pub returns : goal.returns
 unfolding if_given
-returns c = rw (built_in_given _ c.built_in-prices.ensures) c.least_by.ensures
+returns c = rw c.built_in.ensures at c.least_by.ensures

@@ -1,11 +1,12 @@
 -- `planner::costs::least_uploads_with` meets its contract. Assumes nothing.
-use Rattle.prices.specs.FileLaws.{judged_priced}
+use mathlib.Core.Path.{sym, subst}
+use Rattle.prices.specs.PriceLaws.{Priced, file_priced}
 use Rattle.prices.specs.Uploads.{if_given}
 use Rattle.planner.proofs.costs.least_uploads_with.Goals as goal
 
 pub least_by-requires : goal.least_by-requires
-least_by-requires c = judged_priced _ _ c.file_fault.ensures
+least_by-requires c = subst Priced (sym c.of_file.ensures) (file_priced c.args.prices.now)
 
 pub returns : goal.returns
 unfolding if_given
-returns c = rw (← c.file_fault.ensures) c.least_by.ensures
+returns c = rw c.of_file.ensures at c.least_by.ensures

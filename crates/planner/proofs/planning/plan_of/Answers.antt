@@ -2,15 +2,9 @@
 use Rattle.planner.specs.Asked.{asks}
 use Rattle.planner.specs.FillLaws.{filled_tabled}
 use Rattle.planner.specs.PlanRight.{spelt_front, lettered_front, cost_front, plan_marked, plan_answered}
-use native.Mathlib.Omega.{arith}
 use borrow.Author.Rules.{rules}
 use Rattle.planner.specs.Fees.{rated}
 use Rattle.planner.proofs.planning.plan_of.Goals as goal
-
-pub fill-requires : goal.fill-requires
-fill-requires c =
-    let few = c.requires.ready.fits.requests_most in
-    record { ready = c.requires.ready; n_in_bounds = (omega arith, omega arith) }
 
 pub write_marks-requires : goal.write_marks-requires
 write_marks-requires c =
@@ -35,5 +29,5 @@ returns c =
     plan_answered p n a.summary.server_count a.seconds.now a.servers.now _ few c.requires.server_count_bound.0 c.requires.server_count_bound.1
     (lettered_front p q n _ _ c.write_marks.ensures)
     (spelt_front p q n _ _ c.write_marks.ensures) _ a.marks.now a.rows.now _ _ _
-    (cost_front p q n _ _ _ (filled_tabled p q n _ _ _ _ c.fill.ensures.costs_after c.fill.ensures.keeps_after) c.size_from_u16.ensures.0)
+    (cost_front p q n _ _ _ (filled_tabled p q n _ _ _ _ c.fill.ensures.costs_after c.fill.ensures.keeps_after) c.from.ensures)
     c.answer.ensures

@@ -1,5 +1,4 @@
 -- `planner::requests::link` meets its contract. Assumes nothing.
-use Prim.Native.Nat.{suc, ◌-◌, ◌≤◌}
 use lib.ListN.{length}
 use mathlib.Core.Path.{◌≡◌}
 use Rattle.model.proofs.TableLists.{at}
@@ -10,10 +9,6 @@ use Rattle.planner.proofs.requests.link.Given as goal
 
 abbrev pub invariant-loop-i : goal.invariant-loop-i
 invariant-loop-i l =
-    (l.i ≤ suc l.n)
-    × (l.recent ≡ recents (at l.servers) index l.i)
+    (l.recent ≡ recents (at l.servers) index l.i)
     × (length l.previous ≡ length l.initial.previous)
     × (l.previous ≡ links_front (at l.servers) l.i l.initial.previous)
-
-abbrev pub decreases-loop-i : goal.decreases-loop-i
-decreases-loop-i l = suc l.n - l.i

@@ -1,28 +1,16 @@
--- `planner::rows::put_row` meets its contract: four numbers set one after the other, where they fit. Assumes nothing.
-use mathlib.Core.List.{[], ◌∷◌}
-use mathlib.Core.Path.{sym}
-use Prim.Native.Nat.{◌*◌}
+-- `planner::rows::put_row` meets its contract: four numbers copied over four others, where they fit. Assumes nothing.
 use native.Mathlib.Omega.{arith}
-use lib.ListN.{length-set}
-use Rattle.planner.specs.RowWriting.{set_four}
-use Rattle.base.specs.Lists.{splice_over}
+use Rattle.std.proofs.Common.{sym, ◌∙◌, ◌≡◌, ◌+◌, ◌-◌, ◌*◌, length, drop-drop}
+use Rattle.base.specs.Lists.{splice_fits, splice_over}
+use Rattle.planner.proofs.rows.put_row.Goals.{then-at-out, else-at-out}
 use Rattle.planner.proofs.rows.put_row.Goals as goal
 
-pub returns-then-out-at : goal.returns-then-out-at
-returns-then-out-at c =
+pub returns-after-at-out-clause-placed : goal.returns-after-at-out-clause-placed
+returns-after-at-out-clause-placed c =
     let a = c.args in
-    sym (splice_over (4 * a.k) (a.kind ∷ a.a ∷ a.b ∷ a.c ∷ []) a.out.now (omega arith))
-
-pub bounds-out-at-2 : goal.bounds-out-at-2
-bounds-out-at-2 c = simp length-set (omega arith)
-
-pub bounds-out-at-3 : goal.bounds-out-at-3
-bounds-out-at-3 c = simp length-set (omega arith)
-
-pub bounds-out-at-4 : goal.bounds-out-at-4
-bounds-out-at-4 c = simp length-set (omega arith)
-
-pub returns : goal.returns
-returns c =
-    let a = c.args in
-    rw c.size_from_u32-at.ensures.0 (set_four a.out.now (4 * a.k) a.kind a.a a.b a.c (omega arith))
+    let l : length c.in-Some.numbers ≡ 4 = omega arith in
+    let e : 4 * a.k + 4 - 4 * a.k ≡ 4 = omega arith in
+    rw c.in-Some.is (elim c.if-at-out.branch [
+      | then-at-out w ↦ w.out-is ∙ rw (splice_fits (4 * a.k) c.in-Some.numbers a.out.now (omega arith), w.copy_from_slice.ensures.after, drop-drop, e, l)
+      | else-at-out w ↦ w.out-is ∙ sym (splice_over (4 * a.k) c.in-Some.numbers a.out.now (omega arith))
+    ])

@@ -1,19 +1,13 @@
 -- `planner::table::fill` meets its contract. Assumes nothing.
 use mathlib.Core.Path.{◌≡◌}
-use Prim.Native.Nat.{◌-◌, ◌≤◌}
 use lib.ListN.{length}
 use Rattle.planner.specs.FillLaws.{costs_front, keeps_front}
-use Rattle.planner.specs.Asked.{asks}
-use Rattle.planner.specs.Fees.{rated}
+use Rattle.planner.specs.Prepared.{rates_of, asks_of}
 use Rattle.planner.proofs.table.fill.Given as goal
 
 abbrev pub invariant-loop-i : goal.invariant-loop-i
 invariant-loop-i l =
-    (l.i ≤ l.n)
-    × (length l.costs ≡ length l.initial.costs)
-    × (length l.keeps ≡ length l.initial.keeps)
-    × (l.costs ≡ costs_front (rated l.fees) (asks l.seconds l.servers) l.i l.initial.costs)
-    × (l.keeps ≡ keeps_front (rated l.fees) (asks l.seconds l.servers) l.i l.initial.keeps)
-
-abbrev pub decreases-loop-i : goal.decreases-loop-i
-decreases-loop-i l = l.n - l.i
+    (length l.costs ≡ length l.fn.costs)
+    × (length l.keeps ≡ length l.fn.keeps)
+    × (l.costs ≡ costs_front (rates_of l.asked) (asks_of l.asked) l.i l.fn.costs)
+    × (l.keeps ≡ keeps_front (rates_of l.asked) (asks_of l.asked) l.i l.fn.keeps)

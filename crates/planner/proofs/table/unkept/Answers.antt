@@ -1,30 +1,27 @@
 -- `planner::table::unkept` meets its contract: S where there is no upload price or where S is legal and no dearer. Assumes nothing.
-use borrow.Author.Tests.{eq-eqb, ne_eqb, le-leb, lt-leb, not-true, not-false}
+use borrow.Author.Tests.{le-leb, lt-leb}
 use native.Mathlib.Nat.{min-eq_left, min-eq_right}
 use native.Mathlib.Omega.{arith}
+use Rattle.prices.specs.Uploads.{if_given}
 use Rattle.model.specs.Table.{cheaper, cheaper_mark}
 use Rattle.planner.specs.Answers.{letter}
-use Rattle.planner.specs.Fees.{price_given}
 use Rattle.planner.specs.Terms.{away_of}
 use Rattle.planner.proofs.table.unkept.Goals as goal
-
-pub returns-then-load-eq0 : goal.returns-then-load-eq0
-unfolding price_given away_of cheaper cheaper_mark letter
-returns-then-load-eq0 c = rw (← c.u64_from_u32-load.ensures.0, eq-eqb _ _ c.if-load-eq0.true)
+use Rattle.planner.proofs.table.unkept.Goals.{then-not-sendable-via-then-not-sendable, then-not-sendable-via-else-not-sendable+then-load-sent}
 
 pub returns-then-not-sendable : goal.returns-then-not-sendable
-unfolding price_given away_of cheaper cheaper_mark letter
+unfolding if_given away_of cheaper cheaper_mark letter
 returns-then-not-sendable c =
-    rw (← c.u64_from_u32-load.ensures.0, ne_eqb _ _ c.if-load-eq0.false, not-true c.args.sendable c.if-not-sendable.true-raw)
+    elim c.then-not-sendable.branch [
+      | then-not-sendable-via-then-not-sendable w ↦ rw (c.in-Some.is, c.from-load.ensures, w.if-not-sendable.true)
+      | then-not-sendable-via-else-not-sendable+then-load-sent w ↦ rw (c.in-Some.is, ← c.from-load.ensures, w.if-not-sendable.false, lt-leb _ _ w.if-load-sent.true, min-eq_right {n = c.from-load.result} {m = c.args.sent} (omega arith))
+    ]
 
-pub returns-then-sent-load : goal.returns-then-sent-load
-unfolding price_given away_of cheaper cheaper_mark letter
-returns-then-sent-load c =
-    rw (← c.u64_from_u32-load.ensures.0, ne_eqb _ _ c.if-load-eq0.false, not-false c.args.sendable c.if-not-sendable.false-raw, le-leb _ _ c.if-sent-load.true, min-eq_left c.if-sent-load.true)
+pub returns-else-load-sent : goal.returns-else-load-sent
+unfolding if_given away_of cheaper cheaper_mark letter
+returns-else-load-sent c =
+    rw (c.in-Some.is, ← c.from-load.ensures, c.if-not-sendable.false, le-leb _ _ c.if-load-sent.false, min-eq_left c.if-load-sent.false)
 
-pub returns : goal.returns
-unfolding price_given away_of cheaper cheaper_mark letter
-returns c =
-    let a = c.args in
-    let load = c.u64_from_u32-load.result in
-    rw (← c.u64_from_u32-load.ensures.0, ne_eqb _ _ c.if-load-eq0.false, not-false c.args.sendable c.if-not-sendable.false-raw, lt-leb _ _ c.if-sent-load.false, min-eq_right {n = load} {m = a.sent} (omega arith))
+pub returns-in_default : goal.returns-in_default
+unfolding if_given away_of cheaper cheaper_mark letter
+returns-in_default c = rw (c.in_default.is)

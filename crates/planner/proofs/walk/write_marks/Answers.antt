@@ -1,10 +1,8 @@
 -- `planner::walk::write_marks` meets its contract: when the loop stands at i, v is the cost of i requests where the gaps above c are covered, and the letters still to be found, before those written, are the whole walk's. Assumes nothing.
-use borrow.Author.Rules.{rules}
-use mathlib.Core.Path.{◌≡◌, refl, sym, ap, ◌∙◌}
+use mathlib.Core.Path.{◌≡◌, refl, ap, sym, ◌∙◌}
 use native.Mathlib.Numerals.{add-one}
 use native.Mathlib.Omega.{arith}
 use Prim.Native.Nat.{ℕ, suc, ◌-◌}
-use lib.ListN.{length-set}
 use Rattle.model.specs.Table.{best}
 use Rattle.model.proofs.TableLists.{at}
 use Rattle.planner.specs.Asked.{asks}
@@ -16,9 +14,7 @@ use Rattle.planner.specs.Fees.{rated}
 use Rattle.planner.proofs.walk.write_marks.Goals as goal
 
 pub loop-i-init : goal.loop-i-init
-loop-i-init c =
-    let a = c.args in
-    (search rules, refl, rw c.size_from_u16-end.ensures.0 (c.requires.tabled.costs a.n (omega arith)), rw c.size_from_u16-end.ensures.0)
+loop-i-init c = rw c.from.ensures (c.requires.tabled.costs c.args.n (omega arith), refl)
 
 pub step_back-t-requires : goal.step_back-t-requires
 unfolding Keeps
@@ -29,8 +25,8 @@ step_back-t-requires c =
     let e : suc (l.i - 1) ≡ l.i = omega arith in record {
       ready = ready_less (rated a.fees) a.seconds.now a.servers.now a.previous.now a.n (suc (l.i - 1)) (omega arith) c.requires.ready;
       v_value = (
-        l.invariant.2 ∙ ap (λ (x : ℕ). best (rated a.fees) q x l.c) (sym e),
-        rw (c.size_from_u16-k.ensures.0, add-one (l.i - 1)) (λ j z. c.requires.tabled.keeps (l.i - 1) j (omega arith) z),
+        l.invariant.0 ∙ ap (λ (x : ℕ). best (rated a.fees) q x l.c) (sym e),
+        rw (c.from-k.ensures, add-one (l.i - 1)) (λ j z. c.requires.tabled.keeps (l.i - 1) j (omega arith) z),
       );
     }
 
@@ -40,23 +36,19 @@ loop-i-preserved c =
     let a = c.args in
     let l = c.loop-i in
     let q = asks a.seconds.now a.servers.now in
-    let k = c.size_from_u16-k in
     let e : suc (l.i - 1) ≡ l.i = omega arith in
     let t : c.step_back-t.result ≡ turned (rated a.fees) q (l.i - 1) l.c (at a.keeps.now (suc (l.i - 1))) l.v =
-    c.step_back-t.ensures ∙ rw (k.ensures.0, add-one (l.i - 1)) in (
-      omega arith,
-      length-set l.letters _ _ ∙ l.invariant.1,
+    c.step_back-t.ensures ∙ rw (c.from-k.ensures, add-one (l.i - 1)) in (
       rw t
-          (turned_right (rated a.fees) q (l.i - 1) l.c (at a.keeps.now (suc (l.i - 1))) l.v (l.invariant.2 ∙ ap (λ (x : ℕ). best (rated a.fees) q x l.c) (sym e))
+          (turned_right (rated a.fees) q (l.i - 1) l.c (at a.keeps.now (suc (l.i - 1))) l.v (l.invariant.0 ∙ ap (λ (x : ℕ). best (rated a.fees) q x l.c) (sym e))
           (λ j z. c.requires.tabled.keeps (l.i - 1) j (omega arith) z)),
-      rw k.ensures.0
-          (walked_step (rated a.fees) q (at a.keeps.now) (l.i - 1) l.c l.v l.i l.letters _ c.step_back-t.result e (omega (arith, l.invariant)) t l.invariant.3),
+      rw c.from-k.ensures
+          (walked_step (rated a.fees) q (at a.keeps.now) (l.i - 1) l.c l.v l.i l.letters _ c.step_back-t.result e (omega arith) t l.invariant.1),
     )
 
 pub returns : goal.returns
 returns c =
     let a = c.args in
     let l = c.loop-i in
-    let q = asks a.seconds.now a.servers.now in
     let e : l.i ≡ 0 = omega arith in
-    walked_all (rated a.fees) q (at a.costs.now) (at a.keeps.now) a.n l.c l.v l.letters a.letters.now c.requires.tabled (rw e at l.invariant.3)
+    walked_all (rated a.fees) (asks a.seconds.now a.servers.now) (at a.costs.now) (at a.keeps.now) a.n l.c l.v l.letters a.letters.now c.requires.tabled (rw e at l.invariant.1)

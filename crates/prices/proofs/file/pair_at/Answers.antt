@@ -9,7 +9,7 @@ use Rattle.prices.proofs.file.pair_at.Goals as goal
 pub returns : goal.returns
 returns c =
     let a = c.args in
-    let n = c.size_from_u16 in
+    let n = c.from in
     let i = 4 + 8 * n.result in
     pair_read a.file.now a.class (i + 0) (i + 4 + 0) _ _ (omega (arith, n.ensures)) (omega (arith, n.ensures))
     (c.at32.ensures ∙ le32_part _ i (i + 4 - i) 0 (omega arith))

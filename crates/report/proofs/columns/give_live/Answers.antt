@@ -13,4 +13,4 @@ returns c =
     let y = a.servers.now in
     let m = build a.n (live_mark a.cache a.id x y) in
     let k = build a.n (live_cost a.cache a.id x y) in
-    record { value = c.replay-end.ensures.value; marks_after = c.clear8.ensures ∙ rw c.replay-end.ensures.marks_after (lent_front m a.marks.now a.n (build_length a.n (live_mark a.cache a.id x y)) (omega arith)); costs_after = c.clear64.ensures ∙ rw c.replay-end.ensures.costs_after (lent_front k a.costs.now a.n (build_length a.n (live_cost a.cache a.id x y)) (omega arith)) }
+    record { value = c.replay-end.ensures.value; marks_after = c.clear.ensures ∙ rw c.replay-end.ensures.marks_after (lent_front m a.marks.now a.n (build_length a.n (live_mark a.cache a.id x y)) (omega arith)); costs_after = c.clear-2.ensures ∙ rw c.replay-end.ensures.costs_after (lent_front k a.costs.now a.n (build_length a.n (live_cost a.cache a.id x y)) (omega arith)) }

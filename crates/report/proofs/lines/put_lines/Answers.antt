@@ -1,6 +1,7 @@
 -- `report::lines::put_lines` meets its contract. Assumes nothing.
 use Rattle.report.specs.TextLaws.{sheet_parts, sheet_length}
-use Rattle.report.specs.Text.{columns, entry_of, sheet_text}
+use Rattle.report.specs.Columns.{columns_in}
+use Rattle.report.specs.Text.{entry_of, sheet_text}
 use Rattle.text.specs.Lines.{ascii}
 use Rattle.text.specs.Page.{page, added}
 use Rattle.text.proofs.AnswerLaws.{front_of}
@@ -12,7 +13,7 @@ pub returns : goal.returns
 unfolding ascii
 returns c =
     let a = c.args in
-    let e = entry_of (columns a.seconds.now a.servers.now a.plan.now a.live.now a.least.now a.costs.now) in
+    let e = entry_of (columns_in a.columns) in
     let o = a.text.now in
     let parts : page _ _ ≡ added (sheet_text e a.n a.rows a.closing) (page 0 o) =
     c.put_line.ensures

@@ -1,7 +1,7 @@
 -- `report::sheets::find_least` meets its contract. Assumes nothing.
 use Rattle.planner.specs.RoomLaws.{least_roomy}
+use Rattle.std.specs.Prelude.{Ok}
 use Rattle.planner.specs.Answers.{least_verdict}
-use Rattle.base.specs.declared.Verdict.TheVariants.{Passed}
 use Rattle.prices.specs.Tariff.{price_file}
 use Rattle.request_log.specs.Conditions.{Accepted}
 use mathlib.Core.Option.{none}
@@ -14,5 +14,5 @@ unfolding Accepted
 returns c =
     let a = c.args in
     let t = price_file a.prices.now in
-    let v : least_verdict t none a.log.now (length a.costs.now) ≡ Passed = rw c.requires.1 (least_roomy t a.log.now ∙ c.requires.0) in
+    let v : least_verdict t none a.log.now (length a.costs.now) ≡ (Ok tt) = rw c.requires.1 (least_roomy t a.log.now ∙ c.requires.0) in
     rw (← v) c.least_with.ensures.costs_after

@@ -36,12 +36,14 @@ put_lines-requires c =
     let (a, _, n) = c.requires.accepted in
     let few = (accepted_sound (price_file c.args.prices.now) c.args.log.now a).requests_most in (
       omega (arith, n, few),
-      search rules,
-      search rules,
-      omega (arith, c.plan_marks-rows.auto.marks),
-      omega (arith, c.give_live-end.auto.marks),
-      omega (arith, c.find_least.auto.costs),
-      omega (arith, c.give_live-end.auto.costs),
+      (
+        search rules,
+        search rules,
+        omega (arith, c.plan_marks-rows.auto.marks),
+        omega (arith, c.give_live-end.auto.marks),
+        omega (arith, c.find_least.auto.costs),
+        omega (arith, c.give_live-end.auto.costs),
+      ),
       search rules,
     )
 

@@ -1,11 +1,7 @@
 -- `rows::sets::along` meets its contract. Assumes nothing.
-use mathlib.Core.Path.{◌≡◌}
-use Prim.Native.Nat.{◌-◌, ◌≤◌}
+use Rattle.std.proofs.Common.{◌≡◌, ◌≤◌, ◌-◌}
 use Rattle.rows.specs.Passes.{along}
 use Rattle.rows.proofs.sets.along.Given as goal
 
 abbrev pub invariant-loop-i : goal.invariant-loop-i
-invariant-loop-i l = (l.from ≤ l.i) × (l.i - l.from ≤ l.to - l.from) × (l.w ≡ along l.ns l.t l.from l.start (l.i - l.from))
-
-abbrev pub decreases-loop-i : goal.decreases-loop-i
-decreases-loop-i l = l.to - l.i
+invariant-loop-i l = record { within : l.i - l.from ≤ l.to - l.from; so_far : l.w ≡ along l.ns l.t l.from l.start (l.i - l.from) }

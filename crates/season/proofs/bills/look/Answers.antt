@@ -1,27 +1,24 @@
 -- `season::bills::look` meets its contract. Assumes nothing.
+use Rattle.std.proofs.Common.{ℕ, replicate, sym, ◌∙◌}
+use Rattle.std.proofs.lemmas.List.{length-replicate}
+use Rattle.std.proofs.lemmas.Result.{err_from_is_err_and}
 use Rattle.season.specs.BillLaws.{least_refused, least_accepted, least_found, accepted_met}
 use Rattle.season.specs.Met.{met_as}
-use mathlib.Core.Path.{sym, ◌∙◌}
-use Prim.Native.Nat.{ℕ}
-use lib.ListN.{replicate, length-replicate}
+use Rattle.season.specs.Tallies.{met_of}
 use Rattle.planner.specs.Sizes.{places}
 use Rattle.season.proofs.bills.look.Goals as goal
 
+pub returns-in_err-least : goal.returns-in_err-least
+unfolding met_of met_as
+returns-in_err-least c =
+    let p = err_from_is_err_and c.from_residual.result c.from_residual.ensures.1 in
+    rw (p.1, p.2, least_refused c.args.log.now _ (sym c.in_err-least.ensures.value))
+
 pub accept-requires : goal.accept-requires
 accept-requires c =
-    let log = c.args.log.now in
-    let a = least_accepted log _ (sym c.least-found.ensures.value ∙ c.in-Costs.is) in
-    let f = least_found log (replicate places 0) _ a (length-replicate {A = ℕ} places 0) c.least-found.ensures.costs_after in
+    let a = least_accepted c.args.log.now _ (sym c.in_ok-least.ensures.value) in
+    let f = least_found c.args.log.now (replicate places 0) _ a (length-replicate {A = ℕ} places 0) c.least.ensures.costs_after in
     (a, f.there, f.last)
 
-pub returns-in-Refused : goal.returns-in-Refused
-unfolding met_as
-returns-in-Refused c =
-    let log = c.args.log.now in
-    sym (least_refused log _ (sym c.least-found.ensures.value ∙ c.in-Refused.is))
-
-pub returns-in-Costs : goal.returns-in-Costs
-returns-in-Costs c =
-    let log = c.args.log.now in
-    let a = least_accepted log _ (sym c.least-found.ensures.value ∙ c.in-Costs.is) in
-    c.accept.ensures ∙ sym (accepted_met log a)
+pub returns : goal.returns
+returns c = c.accept.ensures ∙ sym (accepted_met c.args.log.now (least_accepted c.args.log.now _ (sym c.in_ok-least.ensures.value)))

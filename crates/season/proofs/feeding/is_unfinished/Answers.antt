@@ -1,5 +1,5 @@
 -- `season::feeding::is_unfinished` meets its contract. Assumes nothing.
-use borrow.Author.Tests.{lt-ltb, le-ltb}
+use Rattle.std.proofs.Common.{lt-ltb, le-ltb}
 use Rattle.request_log.specs.Fields.{total_length}
 use Rattle.season.specs.Steps.{unfinished}
 use Rattle.season.proofs.feeding.is_unfinished.Goals as goal
@@ -10,9 +10,8 @@ returns-then-log-lt40 c = rw (lt-ltb _ _ c.if-log-lt40.true)
 
 pub returns-then-heads : goal.returns-then-heads
 unfolding unfinished total_length
-returns-then-heads c =
-    rw (le-ltb _ _ c.if-log-lt40.false, ← c.heads.ensures, c.if-heads.true, c.size_from_u32.ensures.0, c.at32.ensures)
+returns-then-heads c = rw (le-ltb _ _ c.if-log-lt40.false, ← c.heads.ensures, c.if-heads.true, c.at32.ensures)
 
-pub returns : goal.returns
+pub returns-else-heads : goal.returns-else-heads
 unfolding unfinished
-returns c = rw (le-ltb _ _ c.if-log-lt40.false, ← c.heads.ensures, c.if-heads.false)
+returns-else-heads c = rw (le-ltb _ _ c.if-log-lt40.false, ← c.heads.ensures, c.if-heads.false)

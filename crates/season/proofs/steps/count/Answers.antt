@@ -1,40 +1,31 @@
 -- `season::steps::count` meets its contract. Assumes nothing.
-use borrow.Author.Rules.{rules}
-use mathlib.Core.Path.{◌≡◌, ap, ◌∙◌}
-use Prim.Native.Nat.{ℕ}
-use mir.Val.{Fits}
-use mir.Syntax.{w64}
-use lib.ListN.{length, get_or}
+use Rattle.std.proofs.Common.{rules, ◌≡◌, ℕ, Ok, Fits, w64, length, get_or, ap, ◌∙◌}
 use Rattle.season.specs.Counting.{summed}
-use Rattle.season.specs.StepLaws.{counted_passed, counted_refused}
-use Rattle.season.specs.Tallies.{numbers, ends, worse}
+use Rattle.season.specs.StepLaws.{summed_min, counted_passed, counted_refused}
+use Rattle.season.specs.Tallies.{numbers, met_of, worse, ends}
 use Rattle.season.proofs.steps.count.Goals as goal
 
-pub returns-in-Passed : goal.returns-in-Passed
-returns-in-Passed c =
+pub returns-in-Ok : goal.returns-in-Ok
+returns-in-Ok c =
     let g = c.well_formed in
-    let u = c.args.tally.refused in
-    let wide : length u ≡ numbers = search rules in
-    let fits : (i : ℕ) → Fits w64 (get_or u i 0) = λ i. search rules in
     let t = c.args.tally in
-    let m = c.args.met in
-    let logs : c.add-logs.result ≡ summed t.logs 1 = c.add-logs.ensures in
-    let least : c.add-least.result ≡ summed t.least m.least = rw c.u64_from_u32.ensures.0 at c.add-least.ensures in
-    let running : c.add-running.result ≡ summed t.running m.running = rw c.u64_from_u32-2.ensures.0 at c.add-running.ensures in
-    let worst : c.worse_of-worst.result ≡ worse t.worst (summed t.logs 1) m = c.worse_of-worst.ensures ∙ ap (λ (k : ℕ). worse t.worst k m) logs in
-    let accepted : c.add-passed.result ≡ summed t.accepted 1 = c.add-passed.ensures in
-    rw (logs, accepted, least, running, worst) (counted_passed t m c.in-Passed.is (wide, λ i. (fits i).fits))
+    let b = c.in-Ok.bill in
+    let wide : length t.refused ≡ numbers = search rules in
+    let fits : (i : ℕ) → Fits w64 (get_or t.refused i 0) = λ i. search rules in
+    let logs : c.saturating_add-logs.result ≡ summed t.logs 1 = c.saturating_add-logs.ensures ∙ summed_min t.logs 1 in
+    let accepted : c.saturating_add.result ≡ summed t.accepted 1 = c.saturating_add.ensures ∙ summed_min t.accepted 1 in
+    let least : c.saturating_add-in-Ok.result ≡ summed t.least b.least = c.saturating_add-in-Ok.ensures ∙ summed_min t.least _ ∙ ap (summed t.least) c.from.ensures in
+    let running : c.saturating_add-in-Ok-2.result ≡ summed t.running b.running = c.saturating_add-in-Ok-2.ensures ∙ summed_min t.running _ ∙ ap (summed t.running) c.from-in-Ok.ensures in
+    let worst : c.worse_of.result ≡ worse t.worst (summed t.logs 1) (met_of (Ok b)) = c.worse_of.ensures ∙ ap (λ k. worse t.worst k (met_of (Ok b))) logs in
+    rw (logs, accepted, least, running, worst, c.in-Ok.is) (counted_passed t b (wide, λ i. (fits i).fits))
 
-pub returns-in-Refused : goal.returns-in-Refused
+pub returns-in-Err : goal.returns-in-Err
 unfolding ends
-returns-in-Refused c =
+returns-in-Err c =
     let g = c.well_formed in
-    let fits : Fits w64 c.args.tally.accepted = search rules in
     let t = c.args.tally in
-    let m = c.args.met in
-    let logs : c.add-logs.result ≡ summed t.logs 1 = c.add-logs.ensures in
-    let least : c.add-least.result ≡ summed t.least m.least = rw c.u64_from_u32.ensures.0 at c.add-least.ensures in
-    let running : c.add-running.result ≡ summed t.running m.running = rw c.u64_from_u32-2.ensures.0 at c.add-running.ensures in
-    let worst : c.worse_of-worst.result ≡ worse t.worst (summed t.logs 1) m = c.worse_of-worst.ensures ∙ ap (λ (k : ℕ). worse t.worst k m) logs in
-    rw (c.is_last.ensures, c.add_refused-more.ensures, logs, least, running, worst)
-    (counted_refused t m _ c.in-Refused.is fits.fits)
+    let accepted : Fits w64 t.accepted = search rules in
+    let least : Fits w64 t.least = search rules in
+    let running : Fits w64 t.running = search rules in
+    rw (c.saturating_add-logs.ensures, summed_min t.logs 1, c.add_refused.ensures, c.is_last.ensures, c.number.ensures, c.in-Err.is)
+    (counted_refused t c.in-Err.r accepted.fits least.fits running.fits)

@@ -8,11 +8,11 @@ use Rattle.text.proofs.put.+put_aligned.Goals as goal
 pub returns-then-number-lt10 : goal.returns-then-number-lt10
 unfolding added
 returns-then-number-lt10 t c =
-    rw (aligned_digit c.args.width c.args.number (omega arith), added_append, ← c.digit.ensures, ← c.before_last-rest.ensures, ← c.put_spaces-to.ensures)
+    rw (aligned_digit c.args.width c.args.number (omega arith), added_append, ← c.digit.ensures, ← c.saturating_sub-rest.ensures, ← c.put_spaces-to.ensures)
     c.put_byte.ensures
 
 pub returns : goal.returns
 unfolding added
 returns t c =
-    rw (aligned_more c.args.width c.args.number (omega arith), added_append, ← c.digit-2.ensures, ← c.before_last-rest.ensures, ← c.put_aligned-to.ensures)
+    rw (aligned_more c.args.width c.args.number (omega arith), added_append, ← c.digit-2.ensures, ← c.saturating_sub-rest.ensures, ← c.put_aligned-to.ensures)
     c.put_byte-2.ensures

@@ -19,8 +19,9 @@ returns c =
       c.put_field-e.ensures,
       c.put-d.ensures,
       c.put_field-c.ensures,
-      c.u64_from_u8.ensures.0,
+      c.from.ensures,
       c.put_list-b.ensures,
       c.put-a.ensures,
+      c.number-number.ensures,
     ) (refusal_parts r (page 0 o)) in
     record { text_after = e; refusal_len_bound = refusal_length r (search rules) (search rules) }

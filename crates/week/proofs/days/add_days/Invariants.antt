@@ -1,11 +1,7 @@
 -- `week::days::add_days` meets its contract. Assumes nothing.
-use Prim.Native.Nat.{◌+◌, ◌-◌, ◌≤◌}
-use lib.ListN.{get_or}
+use Rattle.std.proofs.Common.{◌+◌, get_or}
 use Rattle.base.specs.LentLaws.{Filling}
 use Rattle.week.proofs.days.add_days.Given as goal
 
 abbrev pub invariant-loop-d : goal.invariant-loop-d
-invariant-loop-d l = (l.d ≤ 7) × Filling (λ k. get_or l.sums k 0 + get_or l.days k 0) l.initial.more l.more l.d
-
-abbrev pub decreases-loop-d : goal.decreases-loop-d
-decreases-loop-d l = 7 - l.d
+invariant-loop-d l = Filling (λ k. get_or l.sums k 0 + get_or l.days k 0) l.initial.more l.more l.d

@@ -1,7 +1,5 @@
 -- `week::days::add_hold` meets its contract. Assumes nothing.
-use borrow.Author.Rules.{rules}
-use native.Mathlib.Omega.{arith}
-use mathlib.Core.Path.{◌≡◌, refl}
+use Rattle.std.proofs.Common.{rules, refl, ◌≡◌, ◌/◌, arith}
 use Rattle.week.specs.FigureLaws.{part_within, counted_fits, filled_none, filled_part, filled_all}
 use Rattle.week.proofs.days.add_hold.Goals as goal
 
@@ -9,40 +7,13 @@ pub loop-at-init : goal.loop-at-init
 loop-at-init c =
     (search rules, c.requires.2, filled_none c.args.table.now c.args.server c.args.from (omega (arith, c.requires.0, c.requires.1)) c.requires.4)
 
-pub overflow_sub-table : goal.overflow_sub-table
-overflow_sub-table c =
-    let l = c.loop-at in
-    let a = c.args in
-    let w = part_within l.at a.to (omega arith) in
-    omega (arith, c.part_end-end.ensures, w.0)
-
-pub bounds-table-server : goal.bounds-table-server
-bounds-table-server c = c.requires.0
-
-pub bounds-table-d : goal.bounds-table-d
-bounds-table-d c = omega (arith, c.size_from_u32-d.ensures.0, c.requires.3)
-
 pub overflow_add-table : goal.overflow_add-table
 overflow_add-table c =
     let l = c.loop-at in
     let a = c.args in
     let w = part_within l.at a.to (omega arith) in
-    let d = c.size_from_u32-d.ensures.0 in
     let p = c.requires in
-    record { fits = omega (arith, c.part_end-end.ensures, w.2, counted_fits _ a.from l.at _ c.size_from_u32-d.result l.invariant.2.counted (omega (arith, d, p.3)) p.5) }
-
-pub bounds-table-server-in-loop-at : goal.bounds-table-server-in-loop-at
-bounds-table-server-in-loop-at c = c.requires.0
-
-pub bounds-table-d-in-loop-at : goal.bounds-table-d-in-loop-at
-bounds-table-d-in-loop-at c = omega (arith, c.size_from_u32-d.ensures.0, c.requires.3)
-
-pub loop-at-smaller : goal.loop-at-smaller
-loop-at-smaller c =
-    let l = c.loop-at in
-    let a = c.args in
-    let w = part_within l.at a.to (omega arith) in
-    omega (arith, c.part_end-end.ensures, w.0, w.1)
+    record { fits = omega (arith, c.part_end-end.ensures, w.2, counted_fits _ a.from l.at _ (l.at / 86400) l.invariant.2.counted (omega (arith, p.3)) p.5) }
 
 pub loop-at-preserved : goal.loop-at-preserved
 loop-at-preserved c =
@@ -51,7 +22,7 @@ loop-at-preserved c =
     let w = part_within l.at a.to (omega arith) in (
       omega (arith, c.part_end-end.ensures, w.0),
       omega (arith, c.part_end-end.ensures, w.1),
-      rw c.part_end-end.ensures (filled_part a.table.now a.server a.from l.at a.to l.table _ _ l.invariant.2 l.invariant.0 (omega arith) c.requires.3 c.size_from_u32-d.ensures.0 refl),
+      rw c.part_end-end.ensures (filled_part a.table.now a.server a.from l.at a.to l.table _ _ l.invariant.2 l.invariant.0 (omega arith) c.requires.3 refl refl),
     )
 
 pub returns : goal.returns

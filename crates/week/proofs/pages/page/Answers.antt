@@ -1,11 +1,7 @@
 -- `week::pages::page` meets its contract. Assumes nothing.
 use Rattle.prices.specs.Tariff.{built_in}
-use Rattle.planner.specs.RoomLaws.{most_roomy}
 use Rattle.week.specs.PageLaws.{short_roomy}
 use Rattle.week.proofs.pages.page.Goals as goal
 
 pub page_in-requires : goal.page_in-requires
 page_in-requires c = short_roomy built_in c.args.log.now c.if-log.true
-
-pub page_in-requires-2 : goal.page_in-requires-2
-page_in-requires-2 c = most_roomy built_in c.args.log.now

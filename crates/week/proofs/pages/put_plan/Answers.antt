@@ -7,7 +7,7 @@ use Rattle.prices.specs.Tariff.{built_in}
 use Rattle.request_log.specs.Fields.{server_count_of}
 use Rattle.text.proofs.AnswerLaws.{front_of}
 use Rattle.text.specs.Page.{page, added}
-use Rattle.week.specs.PageLaws.{few_servers, page_fits, plan_few, plan_placed, table_daily, table_page}
+use Rattle.week.specs.PageLaws.{page_fits, plan_few, plan_placed, table_page}
 use Rattle.week.specs.Pages.{page_of}
 use Rattle.week.proofs.pages.put_plan.Goals as goal
 
@@ -18,20 +18,13 @@ figures-requires c =
     let r = c.requires.n_in_bounds in
     (r.0, plan_few built_in a.log.now p.0 a.rows.now a.n r.1, plan_placed built_in a.log.now p.0 a.rows.now a.n r.1 p.1)
 
-pub put_page-requires : goal.put_page-requires
-unfolding server_count_of
-put_page-requires c =
-    let a = c.args in
-    let count = c.size_from_u16-count.ensures.0 ∙ c.u16_from_u8.ensures.0 ∙ c.at.ensures in
-    (omega (arith, count, few_servers built_in a.log.now c.requires.accepted.0), table_daily built_in a.log.now c.requires.accepted.0 a.rows.now a.n c.requires.n_in_bounds.1 _ c.figures.ensures)
-
 pub returns : goal.returns
 unfolding server_count_of
 returns c =
     let a = c.args in
     let log = a.log.now in
     let p = c.requires.accepted in
-    let count : c.size_from_u16-count.result ≡ server_count_of log = c.size_from_u16-count.ensures.0 ∙ c.u16_from_u8.ensures.0 ∙ c.at.ensures in
+    let count : c.from-count.result ≡ server_count_of log = c.from-count.ensures ∙ c.at.ensures in
     let right = table_page built_in log p.0 a.rows.now a.n c.requires.n_in_bounds.1 c.figures.result c.figures.ensures in
     front_of (page_of built_in log) a.text.now _ _
     (c.put_page.ensures ∙ rw count (ap (λ (xs : List ℕ). added xs (page 0 a.text.now)) right))

@@ -1,9 +1,0 @@
--- `checker::copies::begins` meets its contract. Assumes nothing.
-use borrow.Author.Tests.{eq-eqb, ne_eqb}
-use Rattle.checker.proofs.copies.begins.Goals as goal
-
-pub returns-then-t-eq0 : goal.returns-then-t-eq0
-returns-then-t-eq0 c = rw (eq-eqb _ _ c.if-t-eq0.true)
-
-pub returns : goal.returns
-returns c = rw (ne_eqb _ _ c.if-t-eq0.false)

@@ -1,7 +1,0 @@
--- `planner::reads::word` meets its contract: past the end `get_or` gives 0. Assumes nothing.
-use mathlib.Core.Path.{sym}
-use lib.ListN.{get_or-eq_default}
-use Rattle.planner.proofs.reads.word.Goals as goal
-
-pub returns : goal.returns
-returns c = sym (get_or-eq_default c.args.words.now 0 c.if-i-words.false)

@@ -1,0 +1,20 @@
+-- `planner::rows::Basis::put_transfers` meets its contract: when the loop stands at k, the transfers to requests 1 to k are in place. Assumes nothing.
+use native.Mathlib.Omega.{arith}
+use native.Mathlib.Numerals.{add-one}
+use Rattle.model.specs.Marking.{transfers}
+use Rattle.planner.specs.RowWriting.{put_none, put_more}
+use Rattle.planner.specs.Basis.{asked, marked, source}
+use Rattle.planner.specs.WordRows.{new_transfer}
+use Rattle.planner.proofs.rows.Basis.put_transfers.Goals as goal
+
+pub loop-k-init : goal.loop-k-init
+unfolding transfers
+loop-k-init c = (omega arith, put_none c.args.at c.args.out.now)
+
+pub loop-k-preserved : goal.loop-k-preserved
+unfolding transfers new_transfer
+loop-k-preserved c =
+    let l = c.loop-k in
+    let a = c.args in
+    let h = put_more a.at (transfers (asked a.self.now) (marked a.self.now) (source a.self.now) l.k) _ _ a.out.now l.next l.out l.invariant.1 in
+    (omega arith, rw (add-one l.k, c.put_row-next.ensures.next.0, c.put_row-next.ensures.placed, c.transfer.ensures) h)

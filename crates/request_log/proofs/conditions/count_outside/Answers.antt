@@ -1,9 +1,0 @@
--- `request_log::conditions::count_outside` meets its contract. Assumes nothing.
-use borrow.Author.Tests.{eq-eqb, ne_eqb}
-use Rattle.request_log.proofs.conditions.count_outside.Goals as goal
-
-pub returns-then-count-eq0 : goal.returns-then-count-eq0
-returns-then-count-eq0 c = rw (eq-eqb _ _ c.if-count-eq0.true)
-
-pub returns : goal.returns
-returns c = rw (ne_eqb _ _ c.if-count-eq0.false)

@@ -1,7 +1,0 @@
-use Rattle.std.proofs.Common.{refl}
-use Rattle.request_log.specs.Sizes.{log_limit}
-use Rattle.sheet.proofs.input.Goals as goal
-
-pub returns : goal.returns
-unfolding log_limit
-returns c = refl
