@@ -33,7 +33,7 @@ fn step4(s: u32, a: u8, b: u8, c: u8, d: u8) -> u32
 }
 
 // The sum over some bytes: four in one step, the few left over singly.
-fn sum_from(start: u32, bytes: &[u8]) -> u32
+fn by_fours(start: u32, bytes: &[u8]) -> u32
     ensures { result ≡ sum_from start bytes.now }
 {
     let (groups, left) = bytes.as_chunks::<4>();
@@ -45,6 +45,19 @@ fn sum_from(start: u32, bytes: &[u8]) -> u32
         s = step(s, *byte);
     }
     s
+}
+
+// The same, two steps of four in a turn: a turn for each step costs a fifth more.
+fn sum_from(start: u32, bytes: &[u8]) -> u32
+    ensures { result ≡ sum_from start bytes.now }
+{
+    let (pairs, left) = bytes.as_chunks::<8>();
+    let mut s = start;
+    for pair in pairs {
+        let half = step4(s, pair[0], pair[1], pair[2], pair[3]);
+        s = step4(half, pair[4], pair[5], pair[6], pair[7]);
+    }
+    by_fours(s, left)
 }
 
 // The sum of a log: bytes 20 to 23, where it stands, are passed over.
