@@ -1,13 +1,29 @@
 // The season in pieces of a length that its input names: the first two bytes, 1 to 12,328. The rest of the input is fed so, and its report printed.
 #![tactic(auto)]
 
-ghost use Rattle.std.specs.Prelude.{◌≤◌};
+ghost use Rattle.std.specs.Prelude.{◌≡◌, ◌≤◌, length};
+ghost use Rattle.request_log.specs.Sizes.{log_room};
+ghost use Rattle.season.specs.ReportText.{report_room};
 
 use base::bytes::at16;
 use request_log::LOG_ROOM;
 use season::{MOST_BYTES, REPORT_ROOM, Season, begin, feed, finish, summary};
 use std::io::Read;
 use streams::read_full;
+
+// Room for any log.
+fn room() -> [u8; LOG_ROOM]
+    ensures { log_room ≡ length result }
+{
+    [0u8; LOG_ROOM]
+}
+
+// Room for any report.
+fn paper() -> [u8; REPORT_ROOM]
+    ensures { report_room ≡ length result }
+{
+    [0u8; REPORT_ROOM]
+}
 
 // The length of a piece, at least 1 and no more than there is room for.
 fn piece_length<R: Read>(input: &mut R, most: usize) -> usize
@@ -39,11 +55,11 @@ fn read_all<R: Read>(input: &mut R, piece: &mut [u8], room: &mut [u8]) -> Season
 // Where the report cannot be written nothing more is done.
 fn main(rt: HostRuntime) {
     let mut stdin = rt.stdin();
-    let mut space = [0u8; LOG_ROOM];
+    let mut space = room();
     let size = piece_length(&mut stdin, LOG_ROOM);
-    let mut held = [0u8; LOG_ROOM];
+    let mut held = room();
     let season = read_all(&mut stdin, &mut space[..size], &mut held);
-    let mut text = [0u8; REPORT_ROOM];
+    let mut text = paper();
     let n = summary(finish(season, &held), &mut text).unwrap_or(0) as usize;
     if let Some(report) = text.get(..n) {
         let _ = rt.write_all(report);
