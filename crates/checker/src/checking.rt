@@ -89,6 +89,7 @@ pub fn check(log: &[u8], rows: &[u32]) -> Result<u64, Refusal>
 }
 
 // The same by a price file.
+#[tactic(auto, using(prices::specs::PriceLaws::file_priced), unfolding(prices::specs::Uploads::if_given))]
 pub fn check_with(prices: &[u8], log: &[u8], rows: &[u32]) -> Result<u64, Refusal>
     ensures { result ≡ check_answer (price_file prices.now) none log.now rows.now }
 {
@@ -103,6 +104,7 @@ pub fn check_uploads(upload: u32, log: &[u8], rows: &[u32]) -> Result<u64, Refus
 }
 
 // The same by a price file.
+#[tactic(auto, using(prices::specs::PriceLaws::file_priced), unfolding(prices::specs::Uploads::if_given))]
 pub fn check_uploads_with(
     prices: &[u8],
     upload: u32,

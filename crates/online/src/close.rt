@@ -45,7 +45,8 @@ impl Cache {
         requires { Intact self }
         ensures { result ≡ closing self }
     {
-        self.running_cost() + u64::from(self.prices.hold) * self.all_remaining(self.outline())
+        let left = self.all_remaining(self.outline());
+        self.running_cost() + u64::from(self.prices.hold) * left
     }
 
     // The closing cost and the closed state, or 32, 33 and the same state.

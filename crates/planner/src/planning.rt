@@ -143,6 +143,7 @@ pub fn plan(log: &[u8], marks: &mut [u8], rows: &mut [u32]) -> Result<Planned, R
 }
 
 // The same by a price file.
+#[tactic(auto, using(prices::specs::PriceLaws::file_priced), unfolding(prices::specs::Uploads::if_given))]
 pub fn plan_with(
     prices: &[u8],
     log: &[u8],
@@ -171,6 +172,7 @@ pub fn plan_uploads(
 }
 
 // The same by a price file.
+#[tactic(auto, using(prices::specs::PriceLaws::file_priced), unfolding(prices::specs::Uploads::if_given))]
 pub fn plan_uploads_with(
     prices: &[u8],
     upload: u32,

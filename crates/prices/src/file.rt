@@ -55,7 +55,8 @@ fn pair_at(file: &[u8], class: u16) -> Prices
 fn laid_out_otherwise(file: &[u8], n: u16) -> bool
     ensures { result ≡ either (not (eqb (prices_offset file.now) 4)) (not (eqb (length file.now) (4 + 8 * n))) }
 {
-    at16(file, 2) != 4 || file.len() != 4 + 8 * usize::from(n)
+    let misplaced = at16(file, 2) != 4;
+    misplaced || file.len() != 4 + 8 * usize::from(n)
 }
 
 // Count, offset or length are not as the format says.

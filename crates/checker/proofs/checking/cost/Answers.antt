@@ -30,4 +30,4 @@ pub returns : goal.returns
 unfolding check_cost cost_of rates
 returns c =
     let n = c.counted-s.ensures in
-    rw (c.from-2.ensures, c.from-3.ensures, c.from.ensures, c.unwrap_or.ensures, asked_fee c.args.upload, n.0, n.1, n.2)
+    rw (c.from-2.ensures, c.from-3.ensures, c.from.ensures, c.unwrap_or.ensures, asked_fee c.args.upload, n.0, n.1, n.2) (omega arith)

@@ -9,11 +9,11 @@ use Rattle.online.proofs.Cache.closing_cost.Goals as goal
 pub overflow_mul-result : goal.overflow_mul-result
 unfolding closing
 overflow_mul-result c =
-    let left = ap₂ (λ (x y : ℕ). x * y) c.from.ensures c.all_remaining.ensures in
+    let left = ap₂ (λ (x y : ℕ). x * y) c.from.ensures c.all_remaining-left.ensures in
     record { fits = omega (arith, left, closing_fits c.args.self c.requires) }
 
 pub overflow_add-result : goal.overflow_add-result
 unfolding closing
 overflow_add-result c =
-    let left = ap₂ (λ (x y : ℕ). x * y) c.from.ensures c.all_remaining.ensures in
+    let left = ap₂ (λ (x y : ℕ). x * y) c.from.ensures c.all_remaining-left.ensures in
     record { fits = omega (arith, left, c.running_cost.ensures, closing_fits c.args.self c.requires) }

@@ -11,7 +11,3 @@ returns-then-x-y-2 c = let h = c.in-Hold-Hold in rw (h.is-0, h.is-1) (grind (ari
 pub returns-in-Transfer-Transfer : goal.returns-in-Transfer-Transfer
 unfolding follows earlier
 returns-in-Transfer-Transfer c = let t = c.in-Transfer-Transfer in rw (t.is-0, t.is-1, c.lt.ensures) (grind (arith, nat_tests))
-
-pub returns-in-Transfer-Hold : goal.returns-in-Transfer-Hold
-unfolding follows
-returns-in-Transfer-Hold c = let t = c.in-Transfer-Hold in rw (t.is-0, t.is-1)
