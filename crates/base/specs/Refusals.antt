@@ -59,7 +59,7 @@ each f (suc n) = each f n ++ f n
 
 -- the i-th condition of a list, from 0; past the end one that does not hold
 abbrev pub nth : List Condition → ℕ → Condition
-nth cs i = get_or cs i (refuse reason.ShortLog 0 false)
+nth cs i = get_or cs i (refuse (reason.Unlisted 0) 0 false)
 
 -- r is what the first condition that holds refuses with: it stands at `index`, and none before it holds
 pub record First (cs : List Condition) (r : Refusal) : Type 0 where

@@ -1,8 +1,10 @@
 -- One turn of each loop of 17, and its answer from its parts.
-use Rattle.std.specs.Prelude.{Bool, false, List, ◌≡◌, ℕ, zero, suc, ◌+◌, ◌-◌, ◌≤◌, ◌<◌, min, eqb}
+use Rattle.std.specs.Prelude.{Bool, true, false, not, List, [], ◌∷◌, ◌≡◌, ℕ, zero, suc, ◌+◌, ◌-◌, ◌≤◌, ◌<◌, min, ltb, eqb}
+use Rattle.base.specs.declared.reasons.Reason.{Reason}
+use Rattle.base.specs.declared.reasons.Reason.TheVariants as reason
 use Rattle.std.proofs.Common.{sym, ap, arith, lt-ltb, le-ltb}
 use Rattle.base.specs.Choice.{pick, either, both}
-use Rattle.base.specs.Refusals.{first, each, otherwise}
+use Rattle.base.specs.Refusals.{refuse, first, each, otherwise}
 use Rattle.base.specs.RefusalLaws.{first_append}
 use Rattle.base.specs.Sets.{has}
 use Rattle.model.specs.RowForm.{row_at}
@@ -14,6 +16,12 @@ use Rattle.rows.specs.Passes.{any_below, puts, starts}
 use Rattle.rows.specs.PassSteps.{aims_on}
 use Rattle.checker.specs.Search.{hold_key, second_key, upload_key, position}
 use Rattle.checker.specs.Quick.{standing_at, first_of, number_of, first_upload, loaded, fed, unfed, starved, unbacked, hold_test, transfer_test, copy_tests}
+use Rattle.checker.specs.QuickSteps.{unless, alone}
+
+-- one condition, which refuses where a test holds
+found : (b : Bool) (why : Reason) (place : ℕ) → first (refuse why place b ∷ []) ≡ unless (not b) why place
+found true why place = alone false why place
+found false why place = alone true why place
 
 -- the transfers of a second, and its upload to the server
 pub fed_read : (home : ℕ) (ns : List ℕ) (t x from to : ℕ) (b d : Bool) → from ≡ position ns (second_key t) → to ≡ position ns (second_key (suc t))
@@ -65,6 +73,11 @@ unfolding unbacked
 unbacked_most count home ns from zero = omega arith
 unbacked_most count home ns from (suc n) = omega (arith, unbacked_most count home ns from n)
 
+-- 17 for it
+pub transfer_found : (ns : List ℕ) (late : ℕ) (b : Bool) → ltb late (row_count ns) ≡ b → first (transfer_test ns late) ≡ unless (not b) reason.NoCopy (suc late)
+unfolding transfer_test
+transfer_found ns late b e = rw e (found b reason.NoCopy (suc late))
+
 -- ---- holds
 
 -- hold i, by the numbers that were read
@@ -72,6 +85,13 @@ pub fails_read : (home : ℕ) (ns : List ℕ) (i t : ℕ) (r : Quad) (b : Bool) 
     → fed home ns (second_of (row_at ns i)) (server_of (row_at ns i)) ≡ b
 unfolding quad_at row_at
 fails_read home ns i t r b d p e = rw server_read (sym (rw (p, d) at e))
+
+-- 17 for a hold
+pub hold_found : (home : ℕ) (ns : List ℕ) (low i : ℕ) (b : Bool)
+    → b ≡ either (eqb i low) (not (fed home ns (second_of (row_at ns i)) (server_of (row_at ns i))))
+    → first (hold_test home ns low i) ≡ unless (not b) reason.NoCopy (suc i)
+unfolding hold_test
+hold_found home ns low i b e = rw (← e) (found b reason.NoCopy (suc i))
 
 -- holds, then transfers
 pub copy_parts : (count home : ℕ) (ns : List ℕ) (holds uploads low late : ℕ) → holds ≡ position ns (second_key 0) → uploads ≡ first_upload ns 0

@@ -25,10 +25,19 @@ use Rattle.checker.specs.Quick.{first_of, number_of, first_upload, standing_at, 
 use Rattle.checker.specs.QuickReach.{Covering, covering}
 use Rattle.checker.specs.QuickStanding.{standing_agrees}
 
--- ---- the lowest of many numbers
+-- ---- the lower of two numbers, and the lowest of many
 
-min_one : (a b : ℕ) → (min a b ≡ a) ⊎ (min a b ≡ b)
-min_one a b = elim (le_or_lt a b) [ inl l ↦ inl (omega (arith, l)) | inr l ↦ inr (omega (arith, l)) ]
+lower_left : (a b : ℕ) → min a b ≤ a
+lower_left a b = omega arith
+
+lower_right : (a b : ℕ) → min a b ≤ b
+lower_right a b = omega arith
+
+pub lower_within : (a b c : ℕ) → b ≤ c → min a b ≤ c
+lower_within a b c l = omega (arith, lower_right a b)
+
+lower_one : (a b : ℕ) → (min a b ≡ a) ⊎ (min a b ≡ b)
+lower_one a b = elim (le_or_lt a b) [ inl l ↦ inl (omega (arith, l)) | inr l ↦ inr (omega (arith, l)) ]
 
 module _ (count home : ℕ) (ns : List ℕ) (from : ℕ) where
   -- what row from + j leaves without a copy
@@ -43,13 +52,13 @@ module _ (count home : ℕ) (ns : List ℕ) (from : ℕ) where
   starved_first (suc n) j l = go (same_or_not j n) (starved_first n j)
     where
       go : (j ≡ n) ⊎ (j ≢ n) → (j < n → starved count home ns from n ≤ unfed_by j) → min (unfed_by n) (starved count home ns from n) ≤ unfed_by j
-      go (inl e) r = rw e (omega arith)
-      go (inr d) r = omega (arith, r (omega arith))
+      go (inl e) r = rw e (lower_left (unfed_by n) (starved count home ns from n))
+      go (inr d) r = omega (arith, r (omega arith), lower_right (unfed_by n) (starved count home ns from n))
 
   pub starved_one : (n : ℕ) → starved count home ns from n < row_count ns → (j : ℕ) × (j < n) × (starved count home ns from n ≡ unfed_by j)
   unfolding starved
   starved_one zero l = absurd (omega arith)
-  starved_one (suc n) l = go (min_one (unfed_by n) (starved count home ns from n)) (starved_one n)
+  starved_one (suc n) l = go (lower_one (unfed_by n) (starved count home ns from n)) (starved_one n)
     where
       go : (min (unfed_by n) (starved count home ns from n) ≡ unfed_by n) ⊎ (min (unfed_by n) (starved count home ns from n) ≡ starved count home ns from n)
           → (starved count home ns from n < row_count ns → (j : ℕ) × (j < n) × (starved count home ns from n ≡ unfed_by j))

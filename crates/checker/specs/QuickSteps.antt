@@ -1,6 +1,10 @@
 -- One turn of each loop: what the code's step gives is the next value of the definition.
-use Rattle.std.specs.Prelude.{List, ◌≢◌, ◌≡◌, refl, ℕ, zero, suc, ◌-◌, ◌≤◌}
+use Rattle.std.specs.Prelude.{Bool, true, false, not, List, [], ◌∷◌, ◌≢◌, ◌≡◌, refl, ℕ, zero, suc, ◌-◌, ◌≤◌, Ok, Err}
+use Rattle.base.specs.declared.reasons.Reason.{Reason}
+use Rattle.base.specs.declared.reasons.Reason.TheVariants as reason
 use Rattle.std.proofs.Common.{arith, ne_eqb}
+use Rattle.base.specs.Choice.{pick}
+use Rattle.base.specs.Refusals.{refuse, first, Verdict}
 use Rattle.model.specs.RowForm.{row_at}
 use Rattle.model.specs.Checking.{row_count}
 use Rattle.rows.specs.declared.Quad.{Quad}
@@ -9,7 +13,7 @@ use Rattle.rows.specs.Passes.{covers, servers, along, settle, upto}
 use Rattle.rows.specs.PassSteps.{upto_same}
 use Rattle.checker.specs.Search.{hold_key, second_key, upload_key, position, InOrder}
 use Rattle.checker.specs.SearchLaws.{position_most, position_up}
-use Rattle.checker.specs.Quick.{reaches, gather, begun, first_of, number_of, first_upload, upload_number, sources, uploaded_to, before_transfers, second_pass, standing_at}
+use Rattle.checker.specs.Quick.{reaches, gather, begun, first_of, number_of, first_upload, upload_number, sources, uploaded_to, before_transfers, second_pass, standing_at, served, serve_test}
 
 -- the uploads of a second; where the first of all is past the last row there is none
 pub uploads_none : (home : ℕ) (ns : List ℕ) → InOrder ns → (t uploads start : ℕ) → uploads ≡ first_upload ns 0 → row_count ns ≤ uploads
@@ -46,3 +50,17 @@ reaches_read ns t x zero r e n d = absurd (n refl)
 reaches_read ns t x (suc p) r e n d =
     let q : suc p - 1 ≡ p = omega arith in
     rw (← e, ne_eqb (suc p) 0 n, rw q at d)
+
+-- one condition, which refuses where a test fails
+abbrev pub unless : Bool → Reason → ℕ → Verdict
+unless b why place = pick b (Ok tt) (Err (record { reason = why; place = place }))
+
+pub alone : (b : Bool) (why : Reason) (place : ℕ) → first (refuse why place (not b) ∷ []) ≡ unless b why place
+unfolding first
+alone true why place = refl
+alone false why place = refl
+
+-- 18 for a request
+pub serve_found : (log ns : List ℕ) (i : ℕ) (b : Bool) → b ≡ served log ns i → first (serve_test log ns i) ≡ unless b reason.Unserved (suc i)
+unfolding serve_test
+serve_found log ns i b e = rw (← e) (alone b reason.Unserved (suc i))

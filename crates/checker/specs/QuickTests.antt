@@ -49,7 +49,7 @@ last_passed (Err r) w e = refl
 -- 15 asks of the rates only whether an upload price is given
 offers_same : (p : Rates) (kind last : ℕ) → kind_fits (offering (offers p)) kind last ≡ kind_fits p kind last
 unfolding kind_fits offering
-offers_same p kind last = rw (given_some (offers p))
+offers_same p kind last = rw (given_some (offers p) 0)
 
 module _ (count last : ℕ) (ns : List ℕ) (s : Shaped count last ns) (home : ℕ) (inside : home < count) where
   -- at any server a copy stands where a hold keeps it or the set has the server

@@ -8,6 +8,7 @@ pub mod Answers
 pub mod Serving
 pub mod ServerLaws
 pub mod ConditionLaws
+pub mod IdLaws
 pub mod StartLaws
 pub mod Walk
 pub mod Intact

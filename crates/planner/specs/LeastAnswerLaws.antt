@@ -1,13 +1,14 @@
 -- The least costs that are written for a log are those that it has.
 use Rattle.std.specs.Prelude.{List, [], ◌∷◌, ◌++◌, ◌≡◌, refl, ℕ, suc, ◌≤◌, ◌<◌, length, drop, Ok, Err, Result}
 use Rattle.std.proofs.Math.Option.{Option}
-use Rattle.std.proofs.Common.{sym, ap, ◌∙◌, arith, ext_get_or}
+use Rattle.std.proofs.Common.{sym, ap, ◌∙◌, arith, ext_get_or, lt-ltb, le-ltb}
 use Rattle.std.proofs.lemmas.Bool.{ltb-false}
 use Rattle.base.specs.Lists.{build, build_length, build_at, cleared}
 use Rattle.base.specs.Lent.{lent}
 use Rattle.base.specs.LentLaws.{lent_front}
 use Rattle.base.specs.Refusals.{first, short, otherwise, Verdict}
-use Rattle.base.specs.RefusalLaws.{first_passed}
+use Rattle.base.specs.RefusalLaws.{first_met, first_failed, first_passed}
+use Rattle.base.specs.declared.reasons.Reason.TheVariants as reason
 use Rattle.base.specs.declared.Refusal.{Refusal}
 use Rattle.prices.specs.Tariff.{Tariff}
 use Rattle.request_log.specs.Fields.{request_count}
@@ -30,6 +31,14 @@ lists_least p q n =
     (λ k h.
     let l : k < suc n = omega (arith, lists_length p q n) in
     lists_costs p q n k (omega arith) ∙ sym (plan_best p q k) ∙ sym (build_at (suc n) (λ k. plan_cost p q k) k 0 l))
+
+-- 31 or not, by the room for the costs of n requests
+pub no_room : (n : ℕ) (o : List ℕ) → length o < suc n → first (short (suc n) (length o) ∷ []) ≡ Err (record { reason = reason.ShortOutput; place = suc n })
+no_room n o h = first_met (short (suc n) (length o)) [] (lt-ltb (length o) (suc n) h)
+
+pub room : (n : ℕ) (o : List ℕ) → suc n ≤ length o → first (short (suc n) (length o) ∷ []) ≡ Ok tt
+unfolding first
+room n o h = first_failed (short (suc n) (length o)) [] (le-ltb (length o) (suc n) h)
 
 -- there is room for the costs of n requests where 31 does not refuse them
 pub roomy : (n : ℕ) (o : List ℕ) → first (short (suc n) (length o) ∷ []) ≡ Ok tt → suc n ≤ length o

@@ -1,14 +1,14 @@
 -- What the planner writes for marks that letters spell is what it answers.
 use mathlib.Core.List.{List, [], ◌∷◌, ◌++◌}
 use Rattle.base.specs.declared.Refusal.{Refusal}
-use Rattle.std.specs.Prelude.{◌≡◌, refl, get_or, drop, Ok, Err}
+use Rattle.std.specs.Prelude.{◌≡◌, refl, get_or, take, drop, Ok, Err}
 use Rattle.std.proofs.Math.Path.{ap}
-use Rattle.std.proofs.Common.{◌∙◌, arith, ltb-false}
-use Prim.Native.Nat.{ℕ, ◌*◌, ◌≤◌, min}
+use Rattle.std.proofs.Common.{◌∙◌, arith, length-take-le, ltb-false}
+use Prim.Native.Nat.{ℕ, ◌+◌, ◌*◌, ◌≤◌, min}
 use Rattle.std.proofs.Math.ListN.{length}
 use Rattle.base.specs.Refusals.{first, short}
 use Rattle.base.specs.RefusalLaws.{first_after_ok, first_after_err, first_passed}
-use Rattle.base.specs.Lists.{build, build_at, cleared}
+use Rattle.base.specs.Lists.{build, build_at, splice, splice_fits, cleared}
 use Rattle.base.specs.Lent.{lent}
 use Rattle.base.specs.LentLaws.{lent_front}
 use Rattle.request_log.specs.Sizes.{most_requests}
@@ -56,12 +56,20 @@ module _ (n count : ℕ) (seconds servers letters : List ℕ) (d : Marked n coun
     unfolding marked_rows
     filled_count = rw e (row_count_right (asks seconds servers) (marking letters) n count (filled n servers letters) right d.within d.few_servers (marking letters) (λ i a b. refl) none_first)
 
+-- the marks, copied and zeroed beyond
+pub marks_lent : (n : ℕ) (letters o : List ℕ) → n ≤ length letters → n ≤ length o → cleared n (splice 0 (take n letters) o) ≡ lent (Ok tt) (take n letters) o
+marks_lent n letters o a b =
+    let l : length (take n letters) ≡ n = length-take-le n letters a in
+    let e : splice 0 (take n letters) o ≡ take n letters ++ drop n o =
+    splice_fits 0 (take n letters) o (omega arith) ∙ ap (λ (i : ℕ). take n letters ++ drop i o) (let z : 0 + length (take n letters) ≡ n = omega arith in z) in
+    ap (cleared n) e ∙ lent_front (take n letters) o n l b
+
 -- what 31 does not refuse has room
 pub room : (n m : ℕ) → first (short n m ∷ []) ≡ Ok tt → n ≤ m
 room n m e = ltb-false m n ((first_passed (short n m ∷ [])).0 e 0)
 
 -- the rows, put in and zeroed beyond
-rows_lent : (found : List Row) (o : List ℕ) → 4 * length found ≤ length o → cleared (4 * length found) (put_rows 0 found o) ≡ lent (Ok tt) (flat found) o
+pub rows_lent : (found : List Row) (o : List ℕ) → 4 * length found ≤ length o → cleared (4 * length found) (put_rows 0 found o) ≡ lent (Ok tt) (flat found) o
 rows_lent found o h = ap (cleared (4 * length found)) (put_rows_front found o h) ∙ lent_front (flat found) o (4 * length found) (flat_length found) h
 
 -- the answer by the lengths: the marks are looked at before the rows

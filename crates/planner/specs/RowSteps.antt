@@ -1,16 +1,17 @@
 -- The rows step by step, as the code finds them.
-use Rattle.std.specs.Prelude.{Bool, true, false, ◌≡◌}
+use Rattle.std.specs.Prelude.{Bool, true, false, not, ◌≡◌}
 use mathlib.Core.List.{List, [], ◌∷◌, ◌++◌, append_assoc}
 use Rattle.std.proofs.Math.Path.{refl, ap}
-use Rattle.std.proofs.Common.{sym, ◌∙◌}
+use Rattle.std.proofs.Common.{sym, ◌∙◌, lt-ltb, le-ltb}
 use native.Mathlib.Omega.{arith}
 use native.Mathlib.Numerals.{add-one}
-use Prim.Native.Nat.{ℕ, zero, suc, ◌+◌, ◌-◌, ◌≤◌, ◌<◌}
+use Prim.Native.Nat.{ℕ, zero, suc, pred, ◌+◌, ◌-◌, ◌≤◌, ◌<◌}
 use Rattle.std.proofs.Math.ListN.{length, length-append}
 use Rattle.model.specs.Requests.{Requests}
-use Rattle.model.specs.Schedule.{Row}
-use Rattle.model.specs.Marking.{Mark, run_end, transfers, uploads}
-use Rattle.planner.specs.WordRows.{word_holds, word_source, word_rows}
+use Rattle.model.specs.Schedule.{Row, hold, move, transfer, upload}
+use Rattle.model.specs.Marking.{Mark, sends, loads, begins_run, run_end, hold_rows, transfers, uploads}
+use Rattle.planner.specs.Asked.{asks}
+use Rattle.planner.specs.WordRows.{holder_at, new_hold, new_transfer, new_upload, word_holds, word_source, word_rows}
 use Rattle.planner.specs.RowWriting.{put_rows, Put, put_next}
 
 module _ (f : ℕ → Bool) (n : ℕ) where
@@ -35,6 +36,61 @@ module _ (f : ℕ → Bool) (n : ℕ) where
   pub run_last : (e : ℕ) → n ≤ e → run_end f e (n - e) ≡ e
   unfolding run_end
   run_last e l = let z : n - e ≡ 0 = omega arith in rw z
+
+-- no run begins with a gap that fails
+pub begins_off : (f : ℕ → Bool) (k : ℕ) → f k ≡ false → begins_run f k ≡ false
+unfolding begins_run
+begins_off f k h = rw h
+
+-- one begins with the first gap that there is
+pub begins_first : (f : ℕ → Bool) (k : ℕ) → f k ≡ true → k ≤ 1 → begins_run f k ≡ true
+unfolding begins_run
+begins_first f k h l = rw (h, le-ltb 1 k l)
+
+-- and with a later one where the gap before it fails
+pub begins_later : (f : ℕ → Bool) (k : ℕ) → f k ≡ true → 1 < k → begins_run f k ≡ not (f (k - 1))
+unfolding begins_run
+begins_later f k h l = let e : pred k ≡ k - 1 = omega arith in rw (h, lt-ltb 1 k l, e)
+
+-- the holds go by the times alone
+hold_rows_times : (times xs ys : List ℕ) (f : ℕ → Bool) (n y k : ℕ) → hold_rows (asks times xs) f n y k ≡ hold_rows (asks times ys) f n y k
+unfolding hold_rows
+hold_rows_times times xs ys f n y zero = refl
+hold_rows_times times xs ys f n y (suc k) = rw (hold_rows_times times xs ys f n y k)
+
+pub word_holds_times : (times xs ys words : List ℕ) (n c : ℕ) → word_holds (asks times xs) words n c ≡ word_holds (asks times ys) words n c
+unfolding word_holds
+word_holds_times times xs ys words n zero = refl
+word_holds_times times xs ys words n (suc c) = rw (word_holds_times times xs ys words n c, hold_rows_times times xs ys (holder_at words c) n c n)
+
+-- the hold that begins with a gap, if one does
+pub hold_none : (q : Requests) (f : ℕ → Bool) (n y k : ℕ) → begins_run f (suc k) ≡ false → new_hold q f n y k ≡ []
+unfolding new_hold
+hold_none q f n y k e = rw e
+
+pub hold_one : (q : Requests) (f : ℕ → Bool) (n y k : ℕ) → begins_run f (suc k) ≡ true
+    → new_hold q f n y k ≡ hold y (q.time k) (q.time (run_end f (suc k) (n - suc k))) ∷ []
+unfolding new_hold
+hold_one q f n y k e = rw e
+
+-- the transfer to a request, if it is S
+pub transfer_none : (q : Requests) (m : ℕ → Mark) (from : ℕ → ℕ) (i : ℕ) → sends (m (suc i)) ≡ false → new_transfer q m from i ≡ []
+unfolding new_transfer
+transfer_none q m from i e = rw e
+
+pub transfer_one : (q : Requests) (m : ℕ → Mark) (from : ℕ → ℕ) (i : ℕ) → sends (m (suc i)) ≡ true
+    → new_transfer q m from i ≡ move (transfer (from (suc i)) (q.server (suc i)) (q.time (suc i))) ∷ []
+unfolding new_transfer
+transfer_one q m from i e = rw e
+
+-- the upload to it, if it is U
+pub upload_none : (q : Requests) (m : ℕ → Mark) (i : ℕ) → loads (m (suc i)) ≡ false → new_upload q m i ≡ []
+unfolding new_upload
+upload_none q m i e = rw e
+
+pub upload_one : (q : Requests) (m : ℕ → Mark) (i : ℕ) → loads (m (suc i)) ≡ true → new_upload q m i ≡ move (upload (q.server (suc i)) (q.time (suc i))) ∷ []
+unfolding new_upload
+upload_one q m i e = rw e
 
 -- a list of no rows
 none : (rows : List Row) → length rows ≡ 0 → rows ≡ []

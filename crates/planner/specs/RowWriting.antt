@@ -1,6 +1,7 @@
 -- Rows put into a list of numbers, one after the other; a row that does not fit is left out. Assumes nothing.
-use Rattle.std.specs.Prelude.{Bool, true, false, List, [], ◌∷◌, ◌++◌, ◌≡◌, refl, ℕ, suc, ◌+◌, ◌*◌, ◌≤◌, length, take, drop, Option, None, Some}
+use Rattle.std.specs.Prelude.{Bool, true, false, List, [], ◌∷◌, ◌++◌, ◌≡◌, refl, ℕ, suc, ◌+◌, ◌*◌, ◌≤◌, length, take, drop, set, Option, None, Some}
 use Rattle.std.proofs.Common.{append_assoc, sym, ap, ap₂, ◌∙◌, arith, length-append, length-take, take-append-drop, take_at, drop_at, drop-drop}
+use Rattle.std.proofs.lemmas.List.Edits.{sets-eq}
 use Rattle.base.specs.Choice.{pick}
 use Rattle.base.specs.Lists.{splice, splice_fits, splice_length}
 use Rattle.model.specs.Schedule.{Row, hold, move, transfer, upload}
@@ -17,6 +18,12 @@ unfolding numbers
 numbers_length (hold x a b) = refl
 numbers_length (move (transfer y x τ)) = refl
 numbers_length (move (upload x τ)) = refl
+
+-- the length stays
+pub put_rows_length : (k : ℕ) (rows : List Row) (o : List ℕ) → length (put_rows k rows o) ≡ length o
+unfolding put_rows
+put_rows_length k [] o = refl
+put_rows_length k (r ∷ rows) o = put_rows_length (suc k) rows (splice (4 * k) (numbers r) o) ∙ splice_length (4 * k) (numbers r) o
 
 -- two lists of rows, one after the other
 pub put_rows_append : (k : ℕ) (xs ys : List Row) (o : List ℕ) → put_rows k (xs ++ ys) o ≡ put_rows (k + length xs) ys (put_rows k xs o)
@@ -85,6 +92,25 @@ put_none k o = (omega arith, refl)
 pub put_next : (k : ℕ) (xs ys : List Row) (o : List ℕ) (b c : ℕ) (p r : List ℕ) → Put k xs o b p → c ≡ b + length ys → r ≡ put_rows b ys p → Put k (xs ++ ys) o c r
 put_next k xs ys o b c p r h e f =
     (omega (arith, length-append xs ys), f ∙ ap₂ (λ (j : ℕ) (l : List ℕ). put_rows j ys l) h.0 h.1 ∙ sym (put_rows_append k xs ys o))
+
+-- a list of rows that is empty, and one of one row
+pub put_empty : (k : ℕ) (rows : List Row) (o : List ℕ) → rows ≡ [] → Put k rows o k o
+put_empty k rows o e = rw e (put_none k o)
+
+pub put_single : (k : ℕ) (rows : List Row) (r : Row) (o p : List ℕ) → rows ≡ r ∷ [] → p ≡ splice (4 * k) (numbers r) o → Put k rows o (k + 1) p
+unfolding put_rows
+put_single k rows r o p e h = rw e (omega arith, h)
+
+-- four numbers set one after the other
+pub set_four : (o : List ℕ) (i a b c d : ℕ) → i + 4 ≤ length o
+    → set (set (set (set o i a) (i + 1) b) (i + 2) c) (i + 3) d ≡ splice i (a ∷ b ∷ c ∷ d ∷ []) o
+set_four o i a b c d h =
+    let row : List ℕ = a ∷ b ∷ c ∷ d ∷ [] in
+    let e₁ : i + 1 ≡ suc i = omega arith in
+    let e₂ : i + 2 ≡ suc (suc i) = omega arith in
+    let e₃ : i + 3 ≡ suc (suc (suc i)) = omega arith in
+    rw (e₁, e₂, e₃)
+    (sets-eq row o i h ∙ append_assoc (take i o) row (drop (i + length row) o) ∙ sym (splice_fits i row o h))
 
 -- the numbers of the row that there is, of none or one
 abbrev pub row_given : List Row → Option (List ℕ)

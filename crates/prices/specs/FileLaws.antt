@@ -1,5 +1,5 @@
 -- A price file as the code comes by it, and the built-in table as one.
-use Rattle.std.specs.Prelude.{false, not, List, [], ◌≢◌, ◌↔◌, ◌≡◌, refl, ℕ, suc, ◌+◌, ◌*◌, ◌≤◌, ◌<◌, ltb, eqb, length, Ok, Err}
+use Rattle.std.specs.Prelude.{true, false, not, List, [], ◌≢◌, ◌↔◌, ◌≡◌, refl, ℕ, suc, ◌+◌, ◌*◌, ◌≤◌, ◌<◌, ltb, eqb, length, Ok, Err}
 use Rattle.base.specs.declared.reasons.Reason.TheVariants as reason
 use Rattle.std.proofs.Common.{inl, inr, sym, ap, ap₂, ◌∙◌, arith, eqb-true, ltb-false, le-ltb, eq-eqb, ne_eqb}
 use Rattle.std.proofs.lemmas.Bool.{eqb-false, not-false}
@@ -8,7 +8,7 @@ use Rattle.base.specs.ChoiceLaws.{either_false, neither_of}
 use Rattle.base.specs.Bytes.{le32}
 use Rattle.base.specs.Lists.{build}
 use Rattle.base.specs.Refusals.{refuse, first, each, Verdict}
-use Rattle.base.specs.RefusalLaws.{first_met, first_failed, first_passed, each_suc, each_passed}
+use Rattle.base.specs.RefusalLaws.{first_met, first_failed, first_passed, each_suc, each_refused, each_passed}
 use Rattle.prices.specs.Prices.{priced, classes, outside}
 use Rattle.prices.specs.PriceFile.{most_classes, price_room, class_count, prices_offset, pair_at, table_in, form_condition, pair_condition, file_conditions, Loads, built_in_bytes}
 use Rattle.prices.specs.Tariff.{tariff, built_in, price_file}
@@ -39,6 +39,13 @@ pub pair_read : (file : List ℕ) (class i j hold transfer : ℕ) → i ≡ 4 + 
     → priced hold transfer ≡ pair_at file class
 unfolding pair_at
 pair_read file class i j hold transfer p q h t = ap₂ priced (h ∙ ap (le32 file) p) (t ∙ ap (le32 file) q)
+
+-- the first class out of range is refused by its number
+pub pair_refused : (file : List ℕ) (class : ℕ) → class < class_count file → first (each (pair_condition file) class) ≡ Ok tt
+    → outside (pair_at file class) ≡ true → Err (record { reason = reason.PriceRange; place = class }) ≡ first (each (pair_condition file) (class_count file))
+unfolding pair_condition
+pair_refused file class l p o =
+    sym (each_refused (pair_condition file) class (class_count file) _ l p (first_met (refuse reason.PriceRange class (outside (pair_at file class))) [] o))
 
 -- one more in range
 pub pair_passed : (file : List ℕ) (class : ℕ) → first (each (pair_condition file) class) ≡ Ok tt → outside (pair_at file class) ≡ false

@@ -39,6 +39,11 @@ any_of (suc n) f i l e = go (le_or_lt n i) (any_of n f i)
     go (inl h) r = let d : n ≡ i = omega arith in either_last (any_below n f) (f n) (rw d e)
     go (inr h) r = rw (r h e)
 
+-- one more that fails
+pub any_more : (n : ℕ) (f : ℕ → Bool) → any_below n f ≡ false → f n ≡ false → any_below (suc n) f ≡ false
+unfolding any_below
+any_more n f p q = rw p q
+
 -- one of two tests
 either_pairs : (a b c d : Bool) → either (either a b) (either c d) ≡ either (either a c) (either b d)
 either_pairs true b c d = refl

@@ -1,5 +1,5 @@
 -- One turn of each pass: what the code's step gives is the next value of the definition.
-use Rattle.std.specs.Prelude.{Bool, false, not, List, [], ◌∷◌, ◌≢◌, ◌≡◌, refl, ℕ, zero, suc, ◌+◌, ◌-◌, ◌≤◌, ◌<◌, eqb}
+use Rattle.std.specs.Prelude.{Bool, true, false, not, List, [], ◌∷◌, ◌≢◌, ◌≡◌, refl, ℕ, zero, suc, ◌+◌, ◌-◌, ◌≤◌, ◌<◌, eqb}
 use Rattle.base.specs.declared.reasons.Reason.TheVariants as reason
 use Rattle.std.proofs.Common.{inl, inr, eq-eqb, ne_eqb, lt-ltb, le-ltb}
 use native.Mathlib.Omega.{arith}
@@ -10,7 +10,8 @@ use Rattle.model.specs.Checking.{row_count, kind_fits, misplaced}
 use Rattle.rows.specs.declared.Quad.{Quad}
 use Rattle.rows.specs.Reading.{quad_at, as_row}
 use Rattle.rows.specs.ReadingLaws.{server_read}
-use Rattle.rows.specs.Passes.{join, servers, arrival, along, settle, upto, offering, row_tests, aims}
+use Rattle.rows.specs.Passes.{join, servers, arrival, along, settle, upto, offering, row_tests, any_below, aims}
+use Rattle.rows.specs.AnyLaws.{any_of, any_more}
 
 -- one more row of a second
 pub along_more : (ns : List ℕ) (t from start i w v : ℕ) (r : Quad) → from ≤ i → w ≡ along ns t from start (i - from)
@@ -69,6 +70,24 @@ pub row_found : (given : Bool) (count n last : ℕ) (ns : List ℕ) (i p : ℕ) 
 unfolding row_tests quad_at row_at
 row_found given count n last ns i p r m d q e = rw (d, e, q)
 
--- row from + j is a transfer to server x
-abbrev pub aims_on : List ℕ → ℕ → ℕ → ℕ → Bool
-aims_on ns x from j = aims x (row_at ns (from + j))
+-- ---- transfers to a server
+
+module _ (ns : List ℕ) (x from : ℕ) where
+  -- row from + j is one
+  abbrev pub aims_on : ℕ → Bool
+  aims_on j = aims x (row_at ns (from + j))
+
+  -- row i, by the numbers that were read
+  aims_read : (i : ℕ) (r : Quad) (b : Bool) → from ≤ i → r ≡ quad_at ns i → aims x (as_row r) ≡ b → aims_on (i - from) ≡ b
+  unfolding quad_at row_at
+  aims_read i r b h d e = let m : from + (i - from) ≡ i = omega arith in rw m (rw d at e)
+
+  -- it is one, or none up to it
+  pub aimed_there : (to i : ℕ) (r : Quad) → from ≤ i → i < to → r ≡ quad_at ns i → aims x (as_row r) ≡ true → any_below (to - from) aims_on ≡ true
+  aimed_there to i r h l d e = any_of (to - from) aims_on (i - from) (omega arith) (aims_read i r true h d e)
+
+  pub aimed_more : (i : ℕ) (r : Quad) → from ≤ i → any_below (i - from) aims_on ≡ false → r ≡ quad_at ns i → aims x (as_row r) ≡ false
+      → any_below (i + 1 - from) aims_on ≡ false
+  aimed_more i r h p d e =
+      let n : i + 1 - from ≡ suc (i - from) = omega arith in
+      rw n (any_more (i - from) aims_on p (aims_read i r false h d e))

@@ -1,5 +1,5 @@
 -- Laws of rows read by their four numbers.
-use Rattle.std.specs.Prelude.{List, ◌⊎◌, ◌≢◌, ◌≡◌, refl, ℕ, ◌+◌, ◌*◌, ◌/◌, ◌<◌, length}
+use Rattle.std.specs.Prelude.{List, ◌⊎◌, ◌≢◌, ◌≡◌, refl, ℕ, ◌+◌, ◌*◌, ◌/◌, ◌≤◌, ◌<◌, length}
 use Rattle.std.proofs.Common.{inl, inr, arith, eq-eqb, ne_eqb}
 use Rattle.std.proofs.Math.ListN.{get_or-eq_default}
 use Rattle.base.specs.Choice.{same_or_not}
@@ -31,14 +31,37 @@ pub row_upload : (k a b c : ℕ) → k ≢ 0 → k ≢ 1 → row_of k a b c ≡ 
 unfolding row_of
 row_upload k a b c n m = rw (ne_eqb k 0 n, ne_eqb k 1 m)
 
--- what holds of each kind holds of every row
-any_row : (P : Row → Type 0) (k a b c : ℕ) → P (hold a b c) → P (move (transfer a b c)) → P (move (upload a b)) → P (row_of k a b c)
-any_row P k a b c h t u = go (same_or_not k 0) (same_or_not k 1)
+pub row_above : (k a b c : ℕ) → 1 < k → row_of k a b c ≡ move (upload a b)
+row_above k a b c l = row_upload k a b c (omega arith) (omega arith)
+
+-- what holds of each kind holds of every row; of a row that is not of one kind, what holds of the other two
+pub not_hold : (P : Row → Type 0) (k a b c : ℕ) → k ≢ 0 → P (move (transfer a b c)) → P (move (upload a b)) → P (row_of k a b c)
+not_hold P k a b c n t u = go (same_or_not k 1)
   where
-    go : (k ≡ 0) ⊎ (k ≢ 0) → (k ≡ 1) ⊎ (k ≢ 1) → P (row_of k a b c)
-    go (inl e) x = rw (row_hold k a b c e) h
-    go (inr n) (inl e) = rw (row_transfer k a b c e) t
-    go (inr n) (inr m) = rw (row_upload k a b c n m) u
+    go : (k ≡ 1) ⊎ (k ≢ 1) → P (row_of k a b c)
+    go (inl e) = rw (row_transfer k a b c e) t
+    go (inr m) = rw (row_upload k a b c n m) u
+
+pub not_transfer : (P : Row → Type 0) (k a b c : ℕ) → k ≢ 1 → P (hold a b c) → P (move (upload a b)) → P (row_of k a b c)
+not_transfer P k a b c n h u = go (same_or_not k 0)
+  where
+    go : (k ≡ 0) ⊎ (k ≢ 0) → P (row_of k a b c)
+    go (inl e) = rw (row_hold k a b c e) h
+    go (inr m) = rw (row_upload k a b c m n) u
+
+pub not_upload : (P : Row → Type 0) (k a b c : ℕ) → k ≤ 1 → P (hold a b c) → P (move (transfer a b c)) → P (row_of k a b c)
+not_upload P k a b c l h t = go (same_or_not k 0)
+  where
+    go : (k ≡ 0) ⊎ (k ≢ 0) → P (row_of k a b c)
+    go (inl e) = rw (row_hold k a b c e) h
+    go (inr m) = rw (row_transfer k a b c (omega arith)) t
+
+pub any_row : (P : Row → Type 0) (k a b c : ℕ) → P (hold a b c) → P (move (transfer a b c)) → P (move (upload a b)) → P (row_of k a b c)
+any_row P k a b c h t u = go (same_or_not k 0)
+  where
+    go : (k ≡ 0) ⊎ (k ≢ 0) → P (row_of k a b c)
+    go (inl e) = rw (row_hold k a b c e) h
+    go (inr n) = not_hold P k a b c n t u
 
 -- the first number after the kind is the server where a row begins, leaves or arrives by an upload
 pub server_read : (k a b c : ℕ) → server_of (row_of k a b c) ≡ a

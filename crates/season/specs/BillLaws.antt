@@ -1,5 +1,5 @@
 -- What the planner and the online cache answer for a log, as the code takes it: its verdict, and the costs of an accepted one.
-use Rattle.std.specs.Prelude.{List, ◌++◌, ◌≡◌, refl, ℕ, suc, ◌-◌, ◌<◌, length, get_or, replicate, Ok, Err}
+use Rattle.std.specs.Prelude.{Result, List, ◌++◌, ◌≡◌, refl, ℕ, suc, ◌-◌, ◌<◌, length, get_or, replicate, Ok, Err}
 use Rattle.std.specs.Result.{result_unwrap_or}
 use Rattle.base.specs.Refusals.{Verdict}
 use Rattle.std.proofs.Math.Option.{none}
@@ -26,8 +26,20 @@ use Rattle.live.specs.Live.{running_bill, state_of}
 use Rattle.live.specs.LiveClaim.{running_answered}
 use Rattle.season.specs.Met.{least_bill, met_as, looked_at}
 
--- the online cache's cost, by the built-in table as a file
-pub running_found : (file log : List ℕ) → file ≡ built_in_bytes → Accepted built_in log → result_unwrap_or (running_answer (state_of (price_file file) log)) 0 ≡ running_bill built_in log
+-- the cost that is answered; none where it is refused
+unfoldable pub cost_answered : Result ℕ Refusal → ℕ
+cost_answered (Ok cost) = cost
+cost_answered (Err r) = 0
+
+-- as the code takes it
+pub cost_taken : (answer : Result ℕ Refusal) → result_unwrap_or answer 0 ≡ cost_answered answer
+unfolding cost_answered
+cost_taken (Ok cost) = refl
+cost_taken (Err r) = refl
+
+-- the online cache's, by the built-in table as a file
+pub running_found : (file log : List ℕ) → file ≡ built_in_bytes → Accepted built_in log → cost_answered (running_answer (state_of (price_file file) log)) ≡ running_bill built_in log
+unfolding cost_answered
 running_found file log e a = rw (built_in_file file e, running_answered built_in (λ p. classes_ranged) log a)
 
 -- the planner refuses as the log is refused

@@ -1,9 +1,9 @@
 -- Pieces as the code takes them: some bytes at a time, into a room.
-use Rattle.std.specs.Prelude.{Bool, true, false, List, [], ◌∷◌, ◌++◌, ◌⊎◌, ◌≡◌, refl, ℕ, min, ◌+◌, ◌-◌, ◌≤◌, ◌<◌, leb, length, take, drop, replicate, Ok, Err}
+use Rattle.std.specs.Prelude.{Bool, true, false, List, [], ◌∷◌, ◌++◌, ◌⊎◌, ◌≡◌, refl, ℕ, min, ◌+◌, ◌-◌, ◌≤◌, ◌<◌, leb, ltb, length, take, drop, replicate, Ok, Err}
 use Rattle.base.specs.declared.reasons.Reason.TheVariants as reason
-use Rattle.std.proofs.Common.{append_assoc, inl, inr, sym, ap, ◌∙◌, arith, length-append, length-drop, take_all, take-add, take_at, length-take-le, leb-false, ltb-false}
+use Rattle.std.proofs.Common.{append_assoc, inl, inr, sym, ap, ◌∙◌, arith, length-append, length-drop, take_all, take-add, take_at, length-take-le, lt-ltb, le-ltb, leb-false, ltb-false}
 use Rattle.std.proofs.lemmas.List.{take_min}
-use Rattle.base.specs.Choice.{true_or_false}
+use Rattle.base.specs.Choice.{pick, le_or_lt, true_or_false}
 use Rattle.base.specs.Lent.{lent}
 use Rattle.base.specs.Lists.{cleared, splice, splice_fits}
 use Rattle.base.specs.Refusals.{refuse, short}
@@ -20,6 +20,31 @@ use Rattle.season.specs.Steps.{Gathered, gathered, full, unfinished, stepped, wi
 use Rattle.season.specs.Answers.{gathered_in, fed_by, fed, room_left}
 use Rattle.season.specs.Needs.{needed, needed_some, needed_most, unfinished_short, settled, together}
 use Rattle.season.specs.Whole.{with_both, over_stays, pick_true, pick_false, settled_waits, settled_done}
+
+-- the lesser of two numbers
+pub record Lesser (a b n : ℕ) : Type 0 where
+  pub left : n ≤ a
+  pub right : n ≤ b
+  pub some : 1 ≤ a → 1 ≤ b → 1 ≤ n
+
+pub lesser_is : (a b n : ℕ) → n ≡ pick (ltb b a) b a → Lesser a b n
+lesser_is a b n e = go (le_or_lt a b)
+  where
+    go : (a ≤ b) ⊎ (b < a) → Lesser a b n
+    go (inl h) = let f : n ≡ a = rw (le-ltb b a h) at e in record { left = omega (arith, f); right = omega (arith, f); some = λ p q. omega (arith, f) }
+    go (inr h) = let f : n ≡ b = rw (lt-ltb b a h) at e in record { left = omega (arith, f); right = omega (arith, f); some = λ p q. omega (arith, f) }
+
+-- by the Prelude's name
+pub lesser_min : (a b n : ℕ) → n ≡ min a b → Lesser a b n
+lesser_min a b n e = record { left = omega (arith, e); right = omega (arith, e); some = λ p q. omega (arith, e, p, q) }
+
+-- the front of a room that a number names, or all of it
+pub lesser_front : (a : ℕ) (s : List ℕ) (n k : ℕ) → n ≡ pick (ltb (length s) a) (length s) a → a ≡ k → take n s ≡ take k s
+lesser_front a s n k e f = go (le_or_lt a (length s))
+  where
+    go : (a ≤ length s) ⊎ (length s < a) → take n s ≡ take k s
+    go (inl h) = let g : n ≡ a = rw (le-ltb (length s) a h) at e in ap (λ (i : ℕ). take i s) (g ∙ f)
+    go (inr h) = let g : n ≡ length s = rw (lt-ltb (length s) a h) at e in rw (← f) (ap (λ (i : ℕ). take i s) g ∙ take_all (length s) s (omega arith) ∙ sym (take_all a s (omega arith)))
 
 -- where no further log is looked at a piece changes the tally once
 over_next : (t : Tariff) (tally : Tally) → full tally ≡ true → (stepped t tally []).over ≡ true
@@ -52,41 +77,39 @@ held_more held n room piece h l =
 abbrev pub after_taking : ℕ → ℕ → List ℕ → List ℕ → List ℕ
 after_taking held n room piece = take (held + n) (splice held (take n piece) room)
 
+-- any number of bytes that is no more than are needed, and than there are
 module _ (t : Tariff) (tally : Tally) (held n : ℕ) (room piece : List ℕ) (open' : full tally ≡ false) (fits : held < log_room) (roomy : log_room ≤ length room)
-    (some : 1 ≤ length piece) (is : n ≡ min (needed t (take held room)) (length piece)) where
-  right : n ≤ length piece
-  right = omega (arith, is)
-
+    (some : 1 ≤ length piece) (is : Lesser (needed t (take held room)) (length piece) n) where
   front_is : length (take held room) ≡ held
   front_is = length-take-le held room (omega arith)
 
   -- there is room for them
-  end_fits : held + n ≤ log_room
-  end_fits = omega (arith, needed_most t (take held room) (omega (arith, front_is)), front_is, is)
+  pub end_fits : held + n ≤ log_room
+  end_fits = omega (arith, needed_most t (take held room) (omega (arith, front_is)), front_is, is.left)
 
-  taken_some : 1 ≤ n
-  taken_some = omega (arith, is, needed_some t (take held room))
+  pub taken_some : 1 ≤ n
+  taken_some = is.some (needed_some t (take held room)) some
 
   after_is : (after_taking held n room piece) ≡ take held room ++ take n piece
-  after_is = held_more held n room piece (omega (arith, end_fits)) right
+  after_is = held_more held n room piece (omega (arith, end_fits)) is.right
 
-  taken_is : with_bytes t (gathered tally (take held room)) (take n piece) ≡ settled t tally (after_taking held n room piece)
+  pub taken_is : with_bytes t (gathered tally (take held room)) (take n piece) ≡ settled t tally (after_taking held n room piece)
   taken_is =
-      let long : length (take n piece) ≡ n = length-take-le n piece right in
-      together t tally (take held room) (take n piece) open' (omega (arith, long, taken_some)) (omega (arith, long, is)) ∙ ap (settled t tally) (sym after_is)
+      let long : length (take n piece) ≡ n = length-take-le n piece is.right in
+      together t tally (take held room) (take n piece) open' (omega (arith, long, taken_some)) (omega (arith, long, is.left)) ∙ ap (settled t tally) (sym after_is)
 
   -- an unfinished log is held
-  taken_held : unfinished t (after_taking held n room piece) ≡ true → gathered tally (after_taking held n room piece) ≡ with_bytes t (gathered tally (take held room)) (take n piece)
+  pub taken_held : unfinished t (after_taking held n room piece) ≡ true → gathered tally (after_taking held n room piece) ≡ with_bytes t (gathered tally (take held room)) (take n piece)
   taken_held e = sym (taken_is ∙ settled_waits t tally (after_taking held n room piece) e)
 
-  still_short : unfinished t (after_taking held n room piece) ≡ true → held + n < log_room
+  pub still_short : unfinished t (after_taking held n room piece) ≡ true → held + n < log_room
   still_short e =
-      let long : length (take n piece) ≡ n = length-take-le n piece right in
+      let long : length (take n piece) ≡ n = length-take-le n piece is.right in
       let whole : length (after_taking held n room piece) ≡ held + n = ap length after_is ∙ simp length-append (omega (arith, long, front_is)) in
       omega (arith, unfinished_short t (after_taking held n room piece) e, whole)
 
   -- a whole one is counted
-  taken_counted : unfinished t (after_taking held n room piece) ≡ false → gathered (stepped t tally (after_taking held n room piece)) [] ≡ with_bytes t (gathered tally (take held room)) (take n piece)
+  pub taken_counted : unfinished t (after_taking held n room piece) ≡ false → gathered (stepped t tally (after_taking held n room piece)) [] ≡ with_bytes t (gathered tally (take held room)) (take n piece)
   taken_counted e = sym (taken_is ∙ settled_done t tally (after_taking held n room piece) e)
 
 -- of what is taken: how much it is, and what the log that is held is then
@@ -103,9 +126,9 @@ pub taking : (t : Tariff) (tally : Tally) (held n want : ℕ) (room piece : List
     → 1 ≤ length piece → want ≡ needed t (take held room) → n ≡ min want (length piece) → Taking t tally held n room piece
 taking t tally held n want room piece w full_is not_full fits roomy some wanted least =
     let o : full tally ≡ false = sym full_is ∙ not_full in
-    let is : n ≡ min (needed t (take held room)) (length piece) = rw wanted at least in
+    let is : Lesser (needed t (take held room)) (length piece) n = rw (← wanted) (lesser_min want (length piece) n least) in
     record {
-      there = right t tally held n room piece o fits roomy some is;
+      there = is.right;
       some = taken_some t tally held n room piece o fits roomy some is;
       fits = end_fits t tally held n room piece o fits roomy some is;
       short = still_short t tally held n room piece o fits roomy some is;

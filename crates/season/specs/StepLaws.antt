@@ -1,12 +1,13 @@
 -- What one step from log to log needs: sums at the edge of 64 bits, and the counts of a tally.
 use Rattle.std.specs.Prelude.{Bool, true, false, leb, Result, List, ◌⊎◌, ◌≡◌, refl, ℕ, ltb, min, ◌+◌, ◌-◌, ◌^◌, ◌≤◌, ◌<◌, length, get_or, set, Ok, Err}
 use Rattle.std.proofs.Common.{inl, inr, sym, ap, ◌∙◌, arith, take_all, le-ltb, lt-ltb, eq-eqb, ne_eqb}
+use Rattle.std.proofs.Math.Path.{ap₂}
 use Rattle.base.specs.Choice.{pick, le_or_lt}
 use Rattle.base.specs.Lists.{build, build_read, build_same, build_set}
 use Rattle.base.specs.declared.Refusal.{Refusal}
 use Rattle.season.specs.declared.bills.Bill.{Bill}
 use Rattle.season.specs.declared.Tally.{Tally}
-use Rattle.season.specs.Tallies.{numbers, one_if, accepts, refuses, ends, worse, met_of}
+use Rattle.season.specs.Tallies.{Met, numbers, one_if, accepts, refuses, ends, worse, met_of}
 use Rattle.prices.specs.Tariff.{Tariff}
 use Rattle.base.specs.declared.reasons.Reason.TheVariants as reason
 use Rattle.season.specs.Met.{most_logs, one_too_many, looked_at}
@@ -23,6 +24,11 @@ summed_min a b = go (le_or_lt (2 ^ 64) (a + b))
     go : (2 ^ 64 ≤ a + b) ⊎ (a + b < 2 ^ 64) → min (a + b) (2 ^ 64 - 1) ≡ pick (ltb (a + b) (2 ^ 64)) (a + b) (2 ^ 64 - 1)
     go (inl h) = rw (le-ltb (a + b) (2 ^ 64) h) (omega (arith, h))
     go (inr h) = rw (lt-ltb (a + b) (2 ^ 64) h) (omega (arith, h))
+
+-- a sum of more than 64 bits
+pub summed_over : (a b : ℕ) → 2 ^ 64 - 1 - b < a → 2 ^ 64 - 1 ≡ summed a b
+unfolding summed
+summed_over a b h = rw (le-ltb (a + b) (2 ^ 64) (omega arith))
 
 -- nothing added to a number of 64 bits
 pub summed_none : (a : ℕ) → a < 2 ^ 64 → summed a 0 ≡ a
@@ -57,7 +63,37 @@ other_counts xs r (l, f) h =
     ∙ build_same numbers _ _ (λ n m. rw (ne_eqb n (number r.reason) (λ e. omega arith)) (sym (summed_none (get_or xs n 0) (f n))))
 
 -- a tally with an accepted log
-pub counted_passed : (t : Tally) (b : Bill) → Counts t.refused
+pub counted_passed : (t : Tally) (m : Met) → m.verdict ≡ Ok tt → Counts t.refused
+    → record {
+      logs = summed t.logs 1;
+      accepted = summed t.accepted 1;
+      refused = t.refused;
+      least = summed t.least m.least;
+      running = summed t.running m.running;
+      worst = worse t.worst (summed t.logs 1) m;
+      over = false;
+    }
+    ≡ counted t m
+unfolding counted accepts refuses ends
+counted_passed t m e f = rw (e, ← same_counts t.refused f)
+
+-- a tally with a refused log
+pub counted_refused : (t : Tally) (m : Met) (r : Refusal) → m.verdict ≡ Err r → t.accepted < 2 ^ 64
+    → record {
+      logs = summed t.logs 1;
+      accepted = t.accepted;
+      refused = build numbers (λ n. summed (get_or t.refused n 0) (one_if (refuses n (Err r))));
+      least = summed t.least m.least;
+      running = summed t.running m.running;
+      worst = worse t.worst (summed t.logs 1) m;
+      over = ends (Err r);
+    }
+    ≡ counted t m
+unfolding counted accepts
+counted_refused t m r e f = rw (e, summed_none t.accepted f)
+
+-- with a log's bill
+pub bill_counted : (t : Tally) (b : Bill) → Counts t.refused
     → record {
       logs = summed t.logs 1;
       accepted = summed t.accepted 1;
@@ -68,11 +104,11 @@ pub counted_passed : (t : Tally) (b : Bill) → Counts t.refused
       over = false;
     }
     ≡ counted t (met_of (Ok b))
-unfolding counted met_of accepts refuses ends
-counted_passed t b f = rw (← same_counts t.refused f)
+unfolding met_of
+bill_counted t b f = counted_passed t (met_of (Ok b)) refl f
 
--- a tally with a refused log
-pub counted_refused : (t : Tally) (r : Refusal) → t.accepted < 2 ^ 64 → t.least < 2 ^ 64 → t.running < 2 ^ 64
+-- with a log's refusal, which adds to no cost
+pub refusal_counted : (t : Tally) (r : Refusal) → t.accepted < 2 ^ 64 → t.least < 2 ^ 64 → t.running < 2 ^ 64
     → record {
       logs = summed t.logs 1;
       accepted = t.accepted;
@@ -83,8 +119,19 @@ pub counted_refused : (t : Tally) (r : Refusal) → t.accepted < 2 ^ 64 → t.le
       over = ends (Err r);
     }
     ≡ counted t (met_of (Err r))
-unfolding counted met_of accepts worse
-counted_refused t r a l n = rw (summed_none t.accepted a, summed_none t.least l, summed_none t.running n)
+unfolding met_of worse
+refusal_counted t r a l n =
+    let tally : ℕ → ℕ → Tally =
+    λ least running. record {
+      logs = summed t.logs 1;
+      accepted = t.accepted;
+      refused = build numbers (λ n. summed (get_or t.refused n 0) (one_if (refuses n (Err r))));
+      least = least;
+      running = running;
+      worst = t.worst;
+      over = ends (Err r);
+    } in
+    ap₂ tally (sym (summed_none t.least l)) (sym (summed_none t.running n)) ∙ counted_refused t (met_of (Err r)) r refl a
 
 -- ---- the next log
 

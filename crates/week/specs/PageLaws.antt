@@ -3,11 +3,11 @@ use Rattle.std.specs.Prelude.{true, ◌≡◌, refl, ℕ, zero, suc, pred, ◌*�
 use mathlib.Core.List.{List, [], ◌∷◌, ◌++◌}
 use Rattle.std.proofs.Math.Option.{none}
 use Rattle.std.proofs.Math.Path.{sym, ap, ap₂}
-use Rattle.std.proofs.Common.{◌∙◌, arith, length-append, ltb-false}
+use Rattle.std.proofs.Common.{◌∙◌, arith, length-append, lt-ltb, le-ltb, ltb-false}
 use Rattle.std.proofs.Math.ListN.{get_or}
 use Rattle.base.specs.Lent.{lent}
 use Rattle.base.specs.Lists.{build, build_at, build_same}
-use Rattle.base.specs.Refusals.{first, otherwise, short, Verdict}
+use Rattle.base.specs.Refusals.{first, short, Verdict}
 use Rattle.base.specs.RefusalLaws.{first_passed}
 use Rattle.base.specs.declared.Refusal.{Refusal}
 use Rattle.prices.specs.Tariff.{Tariff}
@@ -36,7 +36,9 @@ use Rattle.week.specs.LineLaws.{lines_same}
 use Rattle.week.specs.PageLength.{page_room, page_length}
 use Rattle.week.specs.PageText.{week_line, page_lines, page_text}
 use Rattle.week.specs.Pages.{page_of, last_second, after_week, page_verdict}
-use Rattle.planner.specs.Outcome.{Outcome}
+use Rattle.base.specs.declared.reasons.Reason.TheVariants as reason
+use Rattle.text.specs.Answers.{room_verdict}
+use Rattle.planner.specs.Outcome.{Outcome, a_plan}
 use Rattle.planner.specs.declared.Planned.{Planned}
 
 -- n rows are n
@@ -113,6 +115,16 @@ module _ (t : Tariff) (log : List ℕ) (a : Accepted t log) where
         row : (y : ℕ) → y < 64 → get_or table y [] ≡ server_days (planned_rows t none log) y
         row y h = rw e (build_at 64 (days_upto ns n) y [] h ∙ figures_right y)
 
+  -- after the week it is refused
+  pub page_late : (room : ℕ) → week_seconds < last_second log → page_verdict t log room ≡ Err (record { reason = reason.AfterWeek; place = 0 })
+  unfolding page_verdict after_week first
+  page_late room h = after_accepted t log _ a ∙ rw (lt-ltb week_seconds (last_second log) h)
+
+  -- in the week it needs room
+  pub page_timely : (room : ℕ) → last_second log ≤ week_seconds → page_verdict t log room ≡ room_verdict (page_of t log) room
+  unfolding page_verdict after_week first room_verdict
+  page_timely room h = after_accepted t log _ a ∙ rw (le-ltb week_seconds (last_second log) h)
+
   -- an accepted log's page is refused by 36 and by its room alone
   pub page_parts : (room : ℕ) → page_verdict t log room ≡ first (after_week log ∷ short (length (page_of t log)) room ∷ [])
   unfolding page_verdict
@@ -128,6 +140,43 @@ pub short_roomy : (t : Tariff) (log : List ℕ) → length log ≤ 424 → Roomy
 unfolding length_for
 short_roomy t log h a = let e = (accepted_sound t log a).length_is in (omega (arith, e), omega (arith, e))
 
+-- what is known where the plan is answered: the log is accepted, and how many rows there are
+pub plan_answered : (t : Tariff) (log : List ℕ) (cost n : ℕ) → planned (verdict_of t log) t none log ≡ a_plan cost n
+    → Accepted t log × (n ≡ length (planned_rows t none log))
+unfolding planned Accepted
+plan_answered t log cost n e = go (verdict_of t log) e
+  where
+    rows_of : Outcome → ℕ
+    rows_of (Ok p) = p.rows
+    rows_of (Err r) = 0
+
+    go : (v : Verdict) → planned v t none log ≡ a_plan cost n → (v ≡ Ok tt) × (n ≡ length (planned_rows t none log))
+    go (Ok _) f = (refl, sym (ap rows_of f))
+    go (Err r) f = let z : ◌≡◌ {A = ℕ} 0 1 = cc in absurd (omega arith)
+
+-- and where it is refused
+pub plan_refused : (t : Tariff) (log : List ℕ) (r : Refusal) → planned (verdict_of t log) t none log ≡ Err r → verdict_of t log ≡ Err r
+unfolding planned
+plan_refused t log r e = go (verdict_of t log) e
+  where
+    go : (v : Verdict) → planned v t none log ≡ Err r → v ≡ Err r
+    go (Ok _) f = let z : ◌≡◌ {A = ℕ} 0 1 = cc in absurd (omega arith)
+    go (Err s) f =
+        let same : s ≡ r = cc in
+        ap Err same
+
+-- the rows of an accepted log's plan stand at the front of what was lent
+pub plan_stands : (t : Tariff) (log ns o : List ℕ) → ns ≡ lent (Ok tt) (rows_of_plan t none log) o
+    → (4 * length (planned_rows t none log) ≤ length ns) × (rows_upto ns (length (planned_rows t none log)) ≡ planned_rows t none log)
+unfolding lent rows_of_plan
+plan_stands t log ns o e =
+    rw e (simp length-append (omega (arith, flat_length (planned_rows t none log))), upto_flat (planned_rows t none log) _)
+
+-- a refused log is refused
+pub page_refused : (t : Tariff) (log : List ℕ) (room : ℕ) (r : Refusal) → verdict_of t log ≡ Err r → page_verdict t log room ≡ Err r
+unfolding page_verdict
+page_refused t log room r e = after_log t log _ ∙ rw e
+
 -- a plan in lists that have room for it
 module _ (t : Tariff) (log marks rows : List ℕ) (room : Roomy t log (length marks) (length rows)) where
   -- is refused as the log is
@@ -135,35 +184,19 @@ module _ (t : Tariff) (log marks rows : List ℕ) (room : Roomy t log (length ma
   as_log = plan_roomy t log (length marks) (length rows) room
 
   -- where it is, so is the page
-  pub plan_refused : (r : Refusal) (place : ℕ) → planned (plan_verdict t none log (length marks) (length rows)) t none log ≡ Err r
+  pub roomy_refused : (r : Refusal) (place : ℕ) → planned (plan_verdict t none log (length marks) (length rows)) t none log ≡ Err r
       → page_verdict t log place ≡ Err r
-  unfolding page_verdict planned
-  plan_refused r place e = after_log t log _ ∙ go (verdict_of t log) _ (rw as_log at e)
-    where
-      go : (v w : Verdict) → planned v t none log ≡ Err r → otherwise v w ≡ Err r
-      go (Ok _) w f = let z : ◌≡◌ {A = ℕ} 0 1 = cc in absurd (omega arith)
-      go (Err s) w f =
-          let same : s ≡ r = cc in
-          ap Err same
+  roomy_refused r place e = page_refused t log place r (plan_refused t log r (rw as_log at e))
 
   -- where it is answered the log is accepted, and the answer has the number of its rows
-  pub plan_answered : (p : Planned) → planned (plan_verdict t none log (length marks) (length rows)) t none log ≡ Ok p
+  pub roomy_answered : (p : Planned) → planned (plan_verdict t none log (length marks) (length rows)) t none log ≡ Ok p
       → Accepted t log × (p.rows ≡ length (planned_rows t none log))
-  unfolding planned Accepted
-  plan_answered p e = go (verdict_of t log) (rw as_log at e)
-    where
-      rows_of : Outcome → ℕ
-      rows_of (Ok p) = p.rows
-      rows_of (Err r) = 0
-
-      go : (v : Verdict) → planned v t none log ≡ Ok p → (v ≡ Ok tt) × (p.rows ≡ length (planned_rows t none log))
-      go (Ok _) f = (refl, sym (ap rows_of f))
-      go (Err r) f = let z : ◌≡◌ {A = ℕ} 0 1 = cc in absurd (omega arith)
+  roomy_answered p e = plan_answered t log p.cost p.rows (rw as_log at e)
 
   -- and these stand at the front of what was lent
-  pub plan_stands : (p : Planned) (ns : List ℕ) → planned (plan_verdict t none log (length marks) (length rows)) t none log ≡ Ok p
+  pub roomy_stands : (p : Planned) (ns : List ℕ) → planned (plan_verdict t none log (length marks) (length rows)) t none log ≡ Ok p
       → ns ≡ rows_left t none log marks rows → (4 * p.rows ≤ length ns) × (rows_upto ns p.rows ≡ planned_rows t none log)
-  unfolding lent rows_of_plan Accepted
-  plan_stands p ns e f =
-      let (a, n) = plan_answered p e in
-      rw (f, as_log, a, n) (simp length-append (omega (arith, flat_length (planned_rows t none log))), upto_flat (planned_rows t none log) _)
+  unfolding Accepted
+  roomy_stands p ns e f =
+      let (a, n) = roomy_answered p e in
+      rw n (plan_stands t log ns rows (f ∙ ap (λ (v : Verdict). lent v (rows_of_plan t none log) rows) (as_log ∙ a)))

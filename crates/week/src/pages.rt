@@ -33,7 +33,7 @@ fn put_plan(text: &mut [u8], log: &[u8], rows: &[u32], n: usize) -> usize
 }
 
 // The week page of a log, its plan in lists that have room for it; refused with 1 to 13, 36 or 31, the text as it was.
-#[tactic(auto, using(crate::specs::PageLaws::plan_answered, crate::specs::PageLaws::plan_refused, crate::specs::PageLaws::page_parts, crate::specs::PageLaws::timely, base::specs::RefusalLaws::chain), unfolding(crate::specs::Pages::after_week, text::specs::Answers::room_verdict, text::specs::Answers::printed, base::specs::Lent::lent))]
+#[tactic(auto, using(crate::specs::PageLaws::roomy_answered, crate::specs::PageLaws::roomy_refused, crate::specs::PageLaws::page_parts, crate::specs::PageLaws::timely, base::specs::RefusalLaws::chain), unfolding(crate::specs::Pages::after_week, text::specs::Answers::room_verdict, text::specs::Answers::printed, base::specs::Lent::lent))]
 fn page_in(log: &[u8], marks: &mut [u8], rows: &mut [u32], text: &mut [u8]) -> Result<u64, Refusal>
     requires { Roomy built_in log.now (length marks.old) (length rows.old) }
     ensures value { result ≡ printed (page_verdict built_in log.now (length text.old)) (page_of built_in log.now) }

@@ -1,9 +1,8 @@
 -- `season::bills::accept` meets its contract. Assumes nothing.
 use Rattle.std.proofs.Common.{◌≡◌, ℕ, get_or, ap, ◌∙◌}
-use Rattle.std.specs.Result.{result_unwrap_or}
 use Rattle.prices.specs.Tariff.{built_in}
 use Rattle.live.specs.Live.{running_bill}
-use Rattle.season.specs.BillLaws.{running_found}
+use Rattle.season.specs.BillLaws.{cost_answered, cost_taken, running_found}
 use Rattle.season.specs.MetLaws.{built_in_fits}
 use Rattle.season.specs.Met.{least_bill, met_as}
 use Rattle.season.specs.Tallies.{met_of}
@@ -23,7 +22,7 @@ narrow-least-requires c =
 pub narrow-running-requires : goal.narrow-running-requires
 narrow-running-requires c =
     let r : c.unwrap_or.result ≡ running_bill built_in c.args.log.now =
-    c.unwrap_or.ensures ∙ ap (λ (x : _). result_unwrap_or x 0) c.running_of.ensures ∙ running_found _ c.args.log.now c.built_in.ensures c.requires.0 in
+    c.unwrap_or.ensures ∙ cost_taken c.running_of.result ∙ ap cost_answered c.running_of.ensures ∙ running_found _ c.args.log.now c.built_in.ensures c.requires.0 in
     rw r (built_in_fits c.args.log.now c.requires.0).1
 
 pub returns : goal.returns
@@ -34,5 +33,5 @@ returns c =
     let l : c.narrow-least.result ≡ least_bill built_in log =
     c.narrow-least.ensures ∙ ap (λ (k : ℕ). get_or c.args.costs.now k 0) e ∙ c.requires.2 in
     let r : c.narrow-running.result ≡ running_bill built_in log =
-    c.narrow-running.ensures ∙ c.unwrap_or.ensures ∙ ap (λ (x : _). result_unwrap_or x 0) c.running_of.ensures ∙ running_found _ log c.built_in.ensures c.requires.0 in
+    c.narrow-running.ensures ∙ c.unwrap_or.ensures ∙ cost_taken c.running_of.result ∙ ap cost_answered c.running_of.ensures ∙ running_found _ log c.built_in.ensures c.requires.0 in
     rw (c.at16-requests.ensures, l, r)

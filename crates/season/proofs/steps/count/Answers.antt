@@ -1,7 +1,7 @@
 -- `season::steps::count` meets its contract. Assumes nothing.
 use Rattle.std.proofs.Common.{rules, ◌≡◌, ℕ, Ok, Fits, w64, length, get_or, ap, ◌∙◌}
 use Rattle.season.specs.Counting.{summed}
-use Rattle.season.specs.StepLaws.{summed_min, counted_passed, counted_refused}
+use Rattle.season.specs.StepLaws.{summed_min, bill_counted, refusal_counted}
 use Rattle.season.specs.Tallies.{numbers, met_of, worse, ends}
 use Rattle.season.proofs.steps.count.Goals as goal
 
@@ -17,7 +17,7 @@ returns-in-Ok c =
     let least : c.saturating_add-in-Ok.result ≡ summed t.least b.least = c.saturating_add-in-Ok.ensures ∙ summed_min t.least _ ∙ ap (summed t.least) c.from.ensures in
     let running : c.saturating_add-in-Ok-2.result ≡ summed t.running b.running = c.saturating_add-in-Ok-2.ensures ∙ summed_min t.running _ ∙ ap (summed t.running) c.from-in-Ok.ensures in
     let worst : c.worse_of.result ≡ worse t.worst (summed t.logs 1) (met_of (Ok b)) = c.worse_of.ensures ∙ ap (λ k. worse t.worst k (met_of (Ok b))) logs in
-    rw (logs, accepted, least, running, worst, c.in-Ok.is) (counted_passed t b (wide, λ i. (fits i).fits))
+    rw (logs, accepted, least, running, worst, c.in-Ok.is) (bill_counted t b (wide, λ i. (fits i).fits))
 
 pub returns-in-Err : goal.returns-in-Err
 unfolding ends
@@ -28,4 +28,4 @@ returns-in-Err c =
     let least : Fits w64 t.least = search rules in
     let running : Fits w64 t.running = search rules in
     rw (c.saturating_add-logs.ensures, summed_min t.logs 1, c.add_refused.ensures, c.is_last.ensures, c.number.ensures, c.in-Err.is)
-    (counted_refused t c.in-Err.r accepted.fits least.fits running.fits)
+    (refusal_counted t c.in-Err.r accepted.fits least.fits running.fits)
