@@ -30,16 +30,23 @@ fn fits(count: u32, last: u32, r: Row) -> bool
 // A row may follow another: holds by server, then each from later than the former's end; then transfers by second, source and target; then uploads by
 // second and target.
 #[tactic(auto, using(std::proofs::lemmas::Bool::Decides::nat_tests), unfolding(model::specs::RowForm::follows, model::specs::RowForm::earlier))]
-fn follows(r: Row, s: Row) -> bool
-    ensures { result ≡ follows (meant r) (meant s) }
+fn follows(r: Quad, s: Quad) -> bool
+    ensures { result ≡ follows (as_row r) (as_row s) }
 {
-    match (r, s) {
-        (Row::Hold(x, _, to), Row::Hold(y, from, _)) => x < y || x == y && to < from,
-        (Row::Transfer(y, x, t), Row::Transfer(v, u, s)) => (t, y, x) < (s, v, u),
-        (Row::Upload(x, t), Row::Upload(u, s)) => (t, x) < (s, u),
-        (Row::Hold(..), _) | (Row::Transfer(..), Row::Upload(..)) => true,
-        (Row::Transfer(..), Row::Hold(..)) => false,
-        (Row::Upload(..), _) => false,
+    match Row::of(s) {
+        Row::Hold(y, from, _) => match Row::of(r) {
+            Row::Hold(x, _, to) => x < y || x == y && to < from,
+            _ => false,
+        },
+        Row::Transfer(v, u, s) => match Row::of(r) {
+            Row::Hold(..) => true,
+            Row::Transfer(y, x, t) => (t, y, x) < (s, v, u),
+            Row::Upload(..) => false,
+        },
+        Row::Upload(u, s) => match Row::of(r) {
+            Row::Upload(x, t) => t < s || t == s && x < u,
+            _ => true,
+        },
     }
 }
 
@@ -67,7 +74,7 @@ fn misfits(given: bool, count: u32, n: u16, last: u32, r: Quad) -> bool
 fn misplaced(ns: &[u32], i: usize) -> bool
     ensures { result ≡ misplaced ns.now i }
 {
-    0 < i && !follows(Row::of(row(ns, i - 1)), Row::of(row(ns, i)))
+    0 < i && !follows(row(ns, i - 1), row(ns, i))
 }
 
 // 15 and 16 for row i.
