@@ -28,7 +28,7 @@ fn fits(count: u32, last: u32, r: Row) -> bool
 }
 
 // A row may follow another: holds by server, then each from later than the former's end; then transfers by second, source and target; then uploads by
-// second and target.
+// second and target. Each row is matched where its numbers become one: a pair of rows made first would be tested again.
 #[tactic(auto, using(std::proofs::lemmas::Bool::Decides::nat_tests), unfolding(model::specs::RowForm::follows, model::specs::RowForm::earlier))]
 fn follows(r: Quad, s: Quad) -> bool
     ensures { result ≡ follows (as_row r) (as_row s) }
